@@ -34,3 +34,13 @@ pub record IsHolderOf (f : Field) (strict : Bool) (text : List ℕ) (t : Tree) :
   pub value : Value
   pub is : IsRead (field_set f) strict (text_value f text) value
   pub holds : reads (field_set f) (struct_in t) (field_brand f) ≡ with_part (default_record (field_set f) Endless (field_brand f)) (typed_of f).field (index_of f) value
+
+-- the value of a text for an element of a list
+abbrev pub text_element : Row → List ℕ → Rules → Read Value
+text_element row text rules = value_in_root rules (under (row_type row) OfElement row.is_float Array) (json_value text)
+
+-- a list of one element, which has the text's value
+pub record IsOneOf (row : Row) (strict : Bool) (text : List ℕ) (t : Tree) : Type 0 where
+  pub value : Value
+  pub is : IsRead (row_set row) strict (text_element row text) value
+  pub list : IsListOf (row_set row) (row_type row) t (value ∷ [])

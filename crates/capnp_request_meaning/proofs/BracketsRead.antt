@@ -1,5 +1,5 @@
 -- What stands outside brackets in a name, and behind a row of brackets.
-use Rattle.std.proofs.Common.{ℕ, zero, suc, ◌-◌, ◌≡◌, ◌∙◌, ◌==◌, ap, append_assoc, arith, codes, refl, Bool, true, false, List, [], ◌∷◌, ◌++◌, slice_get}
+use Rattle.std.proofs.Common.{ℕ, zero, suc, ◌+◌, ◌-◌, ◌≡◌, ◌∙◌, ◌==◌, ap, append_assoc, arith, codes, refl, Bool, true, false, List, [], ◌∷◌, ◌++◌, slice_get}
 use Rattle.std.specs.Option.{unwrap_or}
 use Rattle.capnp_schema.specs.Types.{SchemaType, AnyPointerType, BoolType, DataType, EnumType, IntType, ListType, StructType, TextType, UIntType, VoidType}
 use Rattle.capnp_request.specs.Names.{bindings_name, more_names, part_bindings, set_type_name, sizes, type_name, unsigned_name}

@@ -1,6 +1,6 @@
 -- What is named gets a number, at which it stays.
-use Rattle.std.proofs.Common.{ℕ, zero, suc, ◌+◌, ◌<◌, ◌≤◌, ◌≡◌, ◌∙◌, ◌==◌, ◌&&◌, ap, arith, refl, sym, nat_lt, Bool, true, false, List, [], ◌∷◌, ◌++◌, length, map, slice_get, Option, Some, None, Ok}
-use Rattle.std.proofs.lemmas.Bool.{and_from, and_parts, eq-eqb, eqb-true, ltb-true}
+use Rattle.std.proofs.Common.{ℕ, zero, suc, ◌+◌, ◌≡◌, ◌∙◌, ◌==◌, ◌&&◌, ap, arith, refl, sym, nat_lt, Bool, true, false, List, [], ◌∷◌, ◌++◌, length, map, slice_get, Option, Some, None, Ok}
+use Rattle.std.proofs.lemmas.Bool.{and_from, and_parts, eq-eqb, eqb-true}
 use Rattle.std.proofs.lemmas.List.{append-nil}
 use Rattle.capnp_device.specs.declared.error.ErrorKind.TheVariants.{NodeNotFound, TooManyTypes}
 use Rattle.capnp_schema.specs.Types.{SchemaType}
@@ -125,10 +125,6 @@ pub record IsNumbered (id : ℕ) (bound : List Bound) (n : ℕ) (entries : List 
   pub node : entry.node ≡ id
   pub whole : entry.place ≡ Whole
   pub same : same_bound entry.bound bound ≡ true
-  pub few : bound_count bound ≤ 1024
-
-pub few_bound : (bound : List Bound) → is_bound_count (bound_count bound) ≡ true → bound_count bound ≤ 1024
-few_bound bound h = let less : bound_count bound < 1025 = ltb-true (bound_count bound) 1025 h in omega (arith, less)
 
 -- What is kept of the entries is kept where a struct node is added that isn't there with these types of its parameters.
 abbrev pub KeepsWhole : (List Entry → Type 0) → List SchemaNode → Type 0
@@ -145,18 +141,18 @@ module _ (K : List Entry → Type 0) where
   module _ (nodes : List SchemaNode) (whole : KeepsWhole K nodes) where
     pub struct_numbered : (id : ℕ) (bound : List Bound) → scopes_of nodes id ≡ Ok (map without_types bound) → IsWork K (number_struct id bound) (λ n z. IsNumbered id bound n z.entries)
     struct_numbered id bound scopes s =
-        done_where K (is_bound_count (bound_count bound)) TooManyTypes (λ n t. Done K s t (λ z. IsNumbered id bound n z.entries)) (number_or_add (entry_number id bound s.entries 0) (whole_entry id bound) s) (λ few. go (few_bound bound few) (entry_number id bound s.entries 0) refl)
+        done_where K (is_bound_count (bound_count bound)) TooManyTypes (λ n t. Done K s t (λ z. IsNumbered id bound n z.entries)) (number_or_add (entry_number id bound s.entries 0) (whole_entry id bound) s) (λ few. go (entry_number id bound s.entries 0) refl)
       where
-        go : bound_count bound ≤ 1024 → (o : Option ℕ) → entry_number id bound s.entries 0 ≡ o → IfDone (λ n t. Done K s t (λ z. IsNumbered id bound n z.entries)) (number_or_add o (whole_entry id bound) s)
-        go small (Some n) is =
+        go : (o : Option ℕ) → entry_number id bound s.entries 0 ≡ o → IfDone (λ n t. Done K s t (λ z. IsNumbered id bound n z.entries)) (number_or_add o (whole_entry id bound) s)
+        go (Some n) is =
             let f : FoundAt (IsEntryOf id bound) s.entries 0 n = found_entry id bound s.entries 0 n is in
             let same : SameEntry id bound f.element = entry_is id bound f.element f.holds in
             let number : n ≡ f.index = omega (arith, f.number) in
             let there : slice_get s.entries n ≡ Some f.element = ap (λ i. slice_get s.entries i) number ∙ f.there in
-            stays K s (λ z. IsNumbered id bound n z.entries) (λ z g. record { entry = f.element; numbered = entry_still s z g n f.element there; node = same.node; whole = same.whole; same = same.same; few = small })
-        go small None is =
+            stays K s (λ z. IsNumbered id bound n z.entries) (λ z g. record { entry = f.element; numbered = entry_still s z g n f.element there; node = same.node; whole = same.whole; same = same.same })
+        go None is =
             weaken K s (λ n z. slice_get z.entries n ≡ Some (whole_entry id bound)) (λ n z. IsNumbered id bound n z.entries) (add_entry (whole_entry id bound) s)
-            (λ n z g h. record { entry = whole_entry id bound; numbered = h; node = refl; whole = refl; same = same_bound_itself bound; few = small })
+            (λ n z g h. record { entry = whole_entry id bound; numbered = h; node = refl; whole = refl; same = same_bound_itself bound })
             (entry_added (whole_entry id bound) s (λ few. whole s.entries id bound few is scopes))
 
   pub enum_numbered : (nodes : List SchemaNode) (id : ℕ) → IsWork K (number_enum nodes id) (λ n z. slice_get z.enums n ≡ Some id)

@@ -51,9 +51,3 @@ before_or_last (z ∷ xs) x (suc j) y h = go (before_or_last xs x j y h)
     go : (slice_get xs j ≡ Some y) ⊎ ((j ≡ length xs) × (x ≡ y)) → (slice_get xs j ≡ Some y) ⊎ ((suc j ≡ suc (length xs)) × (x ≡ y))
     go (inl e) = inl e
     go (inr e) = inr (ap (λ i. suc i) e.0, e.1)
-
--- each number below the length has an element
-pub there_below : {A : Type 0} (xs : List A) (i : ℕ) → i < length xs → (x : A) × (slice_get xs i ≡ Some x)
-there_below [] i less = absurd (omega (arith, less))
-there_below (x ∷ xs) zero less = (x, refl)
-there_below (x ∷ xs) (suc i) less = there_below xs i (omega (arith, less))

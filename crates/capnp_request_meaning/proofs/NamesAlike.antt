@@ -1,5 +1,5 @@
 -- Bound entries have one name only where they are of one node and their bindings are written alike.
-use Rattle.std.proofs.Common.{ℕ, zero, suc, ◌+◌, ◌-◌, ◌<◌, ◌≤◌, ◌≡◌, ◌∙◌, ◌⊎◌, ◌==◌, ap, arith, inl, inr, refl, subst, sym, Bool, true, false, List, [], ◌∷◌, ◌++◌, length, map, slice_get, Some, Ok}
+use Rattle.std.proofs.Common.{ℕ, zero, suc, ◌+◌, ◌-◌, ◌<◌, ◌≤◌, ◌≡◌, ◌∙◌, ◌⊎◌, ◌==◌, ap, append_assoc, arith, inl, inr, refl, subst, sym, Bool, true, false, List, [], ◌∷◌, ◌++◌, length, map, slice_get, Some, Ok}
 use Rattle.std.proofs.lemmas.Bool.{cases_order, eq-eqb, eqb-true, true≢false}
 use Rattle.std.proofs.lemmas.List.{append-nil, append_cancel_left, append_cancel_right, length-append, map-append}
 use Rattle.capnp_schema.specs.Schema.{Brand, Field, Node, Schemas}
@@ -9,14 +9,14 @@ use Rattle.capnp_request.specs.Scopes.{node_named, scopes_of}
 use Rattle.capnp_request.specs.Terms.{FieldTerm, RequestTerm, Said, SchemaNode, StructPart}
 use Rattle.capnp_request.specs.Types.{is_struct_kind}
 use Rattle.capnp_request.specs.Work.{Bound, Entry, GroupOf, Place, Whole}
-use Rattle.capnp_request_meaning.specs.Laws.{BoundNamesDiffer, BoundTypesAreAlike}
+use Rattle.capnp_request_meaning.specs.Laws.{BoundNamesDiffer, BoundTypesAreAlike, HasOwnNames}
 use Rattle.capnp_request_meaning.specs.Meaning.{AreEnumsNamed, AreFieldsFrom, AreNodesFrom, EachBound, IsEntryAt, IsEntryName, IsNameOf, IsNodeOf, IsRead, IsSetOf, IsTaken, Numbers, numbers_in, without_types}
-use Rattle.capnp_request_meaning.specs.Written.{AreBoundAlike, AreScopesAlike, AreWrittenAlike, HasBareNames, HasClearNames, HasNoComma, HaveOwnParts, IsBare, IsNamed, IsWholeAt, HasOwnNames}
+use Rattle.capnp_request_meaning.specs.Written.{AreBoundAlike, AreScopesAlike, AreWrittenAlike, HasBareNames, HasClearNames, HasNoComma, HaveOwnParts, IsBare, IsNamed, IsWholeAt}
 use Rattle.capnp_request_meaning.proofs.BracketsRead.{AreClosed, AreFree, Ends, IsClosed, IsFree, IsHidden, Stays, bare_byte, bare_stays, closed_bare, closed_both, closed_more, free_bare, free_both, free_hidden, free_more, hidden_closed, part_hidden, read_on}
 use Rattle.capnp_request_meaning.proofs.ListsFound.{among_first, same_some}
 use Rattle.capnp_request_meaning.proofs.NamesDiffer.{entry_at, not_dotted}
 use Rattle.capnp_request_meaning.proofs.NamesMeant.{file_dotted}
-use Rattle.capnp_request_meaning.proofs.SetsMeant.{AreBehind, NodeAt, node_here, none_behind, one_behind}
+use Rattle.capnp_request_meaning.proofs.SetsMeant.{AreFirst, NodeAt, first_more}
 use Rattle.capnp_request_meaning.proofs.TypesAlike.{AreTypeNames, scopes_alike}
 
 abbrev tail_of : List ℕ → List ℕ
@@ -56,7 +56,7 @@ bare_file (x ∷ xs) h = go (has_colon (x ∷ xs)) (bare_file xs h.2)
     go true k = (h.0, h.1, k)
     go false k = tt
 
-pub bare_where : (q : Bool) (xs : List ℕ) → IsBare xs → IsBare (file_where q xs)
+bare_where : (q : Bool) (xs : List ℕ) → IsBare xs → IsBare (file_where q xs)
 bare_where true xs h = bare_file xs h
 bare_where false xs h = tt
 
@@ -173,7 +173,7 @@ EachField P (n ∷ ns) = EachName P (field_names n) × EachField P ns
 
 -- commas are asked for where that is said
 pub record AreKnown (nodes : List SchemaNode) (ns : List Node) : Type 0 where
-  pub names : AreClosed (names_of ns)
+  names : AreClosed (names_of ns)
   fields : EachField IsBare ns
   free : HasClearNames nodes → AreFree (names_of ns)
   clear : HasClearNames nodes → EachField HasNoComma ns
@@ -203,7 +203,7 @@ fields_more P [] n h k = (k, tt)
 fields_more P (x ∷ ns) n h k = (h.0, fields_more P ns n h.1 k)
 
 module _ (k : Numbers) (bare : HasBareNames k.nodes) where
-  pub enums_closed : (ids : List ℕ) (names : List (List ℕ)) → AreEnumsNamed k.nodes ids names → AreClosed names
+  enums_closed : (ids : List ℕ) (names : List (List ℕ)) → AreEnumsNamed k.nodes ids names → AreClosed names
   enums_closed [] [] h = tt
   enums_closed (id ∷ ids) (name ∷ names) h = (subst IsClosed (sym h.0.is) (closed_bare (dotted_of h.0.display) (bare_dotted h.0.display (bare.display id h.0.node h.0.display h.0.first h.0.said))), enums_closed ids names h.1)
   enums_closed [] (name ∷ names) h = absurd h
@@ -264,18 +264,24 @@ module _ (k : Numbers) (bare : HasBareNames k.nodes) where
   abbrev pub KnownAt : List Entry → Entry → List Node → ℕ → Type 0
   KnownAt all e ns i = (at : NodeAt k all e ns i) × AreKnown k.nodes at.before
 
-  known_from : (all earlier : List Entry) (before : List Node) (es : List Entry) (ns : List Node) (bs : List Brand) (i j : ℕ) (e : Entry) → AreNodesFrom k earlier before es ns bs → AreKnown k.nodes before → slice_get es i ≡ Some e → j ≡ length earlier + i → (ms : List Node) → AreBehind all earlier es before ns ms → KnownAt all e ms j
-  known_from all earlier before [] [] [] i j e h known at_i count ms places = absurd (cc)
-  known_from all earlier before (x ∷ es) (n ∷ ns) (b ∷ bs) zero j e h known at_i count ms places = (node_here k all earlier es x e before ns ms n b j h.0 (same_some at_i) count places, known)
-  known_from all earlier before (x ∷ es) (n ∷ ns) (b ∷ bs) (suc i) j e h known at_i count ms places =
+  known_from : (all earlier : List Entry) (before : List Node) (es : List Entry) (ns : List Node) (bs : List Brand) (i j : ℕ) (e : Entry) → AreNodesFrom k earlier before es ns bs → AreKnown k.nodes before → slice_get es i ≡ Some e → all ≡ earlier ++ es → j ≡ length earlier + i → length before ≡ length earlier → (ms : List Node) → AreFirst before ms → ((l : ℕ) → slice_get ns l ≡ slice_get ms (length earlier + l)) → KnownAt all e ms j
+  known_from all earlier before [] [] [] i j e h known at_i are count both ms firsts sits = absurd (cc)
+  known_from all earlier before (x ∷ es) (n ∷ ns) (b ∷ bs) zero j e h known at_i are count both ms firsts sits =
+      let same : x ≡ e = same_some at_i in
+      let here : j ≡ length earlier + 0 = count in
+      let whole : length earlier ≡ j = omega (arith, count) in
+      (record { earlier = earlier; rest = x ∷ es; before = before; node = n; brand = b; there = ap (λ l. slice_get ms l) here ∙ sym (sits 0); are = are; count = whole; behind = omega (arith, whole, both); firsts = firsts; is = subst (λ y. IsNodeOf k earlier before y n b) same h.0 }, known)
+  known_from all earlier before (x ∷ es) (n ∷ ns) (b ∷ bs) (suc i) j e h known at_i are count both ms firsts sits =
       let longer : length (earlier ++ x ∷ []) ≡ length earlier + 1 = length-append earlier (x ∷ []) in
-      known_from all (earlier ++ x ∷ []) (before ++ n ∷ []) es ns bs i j e h.1 (known_more earlier before x n b h.0 known) at_i (omega (arith, count, longer)) ms (one_behind all earlier es x before ns ms n places)
-  known_from all earlier before es ns bs i j e h known at_i count ms places = absurd h
+      let next : j ≡ length (earlier ++ x ∷ []) + i = omega (arith, count, longer) in
+      known_from all (earlier ++ x ∷ []) (before ++ n ∷ []) es ns bs i j e h.1 (known_more earlier before x n b h.0 known) at_i (are ∙ sym (append_assoc earlier (x ∷ []) es)) next (let more : length (before ++ n ∷ []) ≡ length before + 1 = length-append before (n ∷ []) in omega (arith, more, longer, both)) ms (first_more before n ms firsts (let e : length earlier + 0 ≡ length before = omega (arith, both) in ap (λ q. slice_get ms q) (sym e) ∙ sym (sits 0)))
+      (λ l. let e : length earlier + suc l ≡ length (earlier ++ x ∷ []) + l = omega (arith, longer) in sits (suc l) ∙ ap (λ q. slice_get ms q) e)
+  known_from all earlier before es ns bs i j e h known at_i are count both ms firsts sits = absurd h
 
   pub known_of_entry : (es : List Entry) (ns : List Node) (bs : List Brand) (i : ℕ) (e : Entry) → AreNodesFrom k [] [] es ns bs → slice_get es i ≡ Some e → KnownAt es e ns i
   known_of_entry es ns bs i e h at_i =
       let start : i ≡ 0 + i = omega arith in
-      known_from es [] [] es ns bs i i e h (record { names = tt; fields = tt; free = λ clear. tt; clear = λ clear. tt }) at_i start ns (none_behind es ns)
+      known_from es [] [] es ns bs i i e h (record { names = tt; fields = tt; free = λ clear. tt; clear = λ clear. tt }) at_i refl start refl ns (λ l x h. absurd (cc)) (λ l. let e : l ≡ 0 + l = omega arith in ap (λ q. slice_get ns q) e)
 
 -- ---- two names of a set ----
 

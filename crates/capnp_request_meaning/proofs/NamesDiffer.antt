@@ -7,8 +7,7 @@ use Rattle.capnp_request.specs.Scopes.{scopes_of}
 use Rattle.capnp_request.specs.Terms.{RequestTerm, Said, SchemaNode}
 use Rattle.capnp_request.specs.Types.{is_entry_of, is_struct_kind, same_bound}
 use Rattle.capnp_request.specs.Work.{Bound, Entry, Whole}
-use Rattle.capnp_request_meaning.specs.Written.{HasOwnNames}
-use Rattle.capnp_request_meaning.specs.Laws.{IsUnboundAt, UnboundNamesDiffer}
+use Rattle.capnp_request_meaning.specs.Laws.{HasOwnNames, IsUnboundAt, UnboundNamesDiffer}
 use Rattle.capnp_request_meaning.specs.Meaning.{AreEntries, AreUnbound, IsEntryAt, IsEntryName, IsNameOf, IsSetOf, IsTaken, Numbers, numbers_in, without_types}
 use Rattle.capnp_request_meaning.proofs.EntriesKept.{same_bound_itself}
 use Rattle.capnp_request_meaning.proofs.ListsFound.{same_some, among_first}

@@ -81,7 +81,7 @@ module _ (structs enums : List (List ℕ)) where
   nothing_behind [] count e = refl
   nothing_behind (t ∷ ts) count e = absurd (cc)
 
-  pub no_bindings : (bs : List Bound) (dots k : ℕ) → AreUnbound bs → part_bindings structs enums bs dots k ≡ []
+  no_bindings : (bs : List Bound) (dots k : ℕ) → AreUnbound bs → part_bindings structs enums bs dots k ≡ []
   no_bindings [] dots k u = refl
   no_bindings (b ∷ bs) dots k u = go (dots - b.distance == k) (nothing_behind b.types b.parameters u.0) (no_bindings bs dots k u.1)
     where

@@ -10,19 +10,24 @@ use Rattle.capnp_request.specs.Scopes.{node_named}
 use Rattle.capnp_request.specs.Terms.{RequestTerm, SchemaNode}
 use Rattle.capnp_request.specs.Types.{enum_position, is_entry_of, is_enum, is_of_kind, is_struct_kind, same_bound}
 use Rattle.capnp_request.specs.Work.{Bound, Entry, MarkedType, Whole}
-use Rattle.capnp_request_meaning.specs.Laws.{BoundNamesAreOwn}
+use Rattle.capnp_request_meaning.specs.Laws.{BoundNamesAreOwn, HasOwnNames}
 use Rattle.capnp_request_meaning.specs.Meaning.{AreAmongFirst, AreEnumsNamed, EachBound, EachType, EntryAt, EnumAt, IsAmongFirst, IsEnumNamed, IsSetOf, Numbers, numbers_in}
 use Rattle.capnp_request_meaning.specs.Plain.{AreNodesPlain}
-use Rattle.capnp_request_meaning.specs.Written.{AreStructsToldApart, HasBareNames, HasClearNames, HasDistinctNames, IsBare, IsNamed, IsWholeAt, built_in_names, is_among, is_type_node, HasOwnNames}
+use Rattle.capnp_request_meaning.specs.Written.{HasBareNames, HasClearNames, HasDistinctNames, IsBare, IsNamed, IsWholeAt, built_in_names, is_among, is_type_node}
 use Rattle.capnp_request_meaning.proofs.BracketsRead.{Stays, bare_stays, read_on}
-use Rattle.capnp_request_meaning.proofs.ListsFound.{same_some, still_at, there_below}
-use Rattle.capnp_request_meaning.proofs.NamesAlike.{alike_scopes, at, bare_dotted, name_outside, named, names_of, names_one, names_two, one_node, one_shape, outside_shown}
+use Rattle.capnp_request_meaning.proofs.ListsFound.{same_some, still_at}
+use Rattle.capnp_request_meaning.proofs.NamesAlike.{alike_scopes, at, bare_dotted, name_outside, named, names_of, names_one, names_two, one_node, one_shape, outside_shown, shown}
 use Rattle.capnp_request_meaning.proofs.NamesDiffer.{not_dotted}
 use Rattle.capnp_request_meaning.proofs.SetsMeant.{IsFirstOf, own_kind, own_place, reached_first}
 use Rattle.capnp_request_meaning.proofs.TypesOwn.{AreOwnNames, EachKnown, IsKnownBound, name_of, scopes_own}
 use Rattle.capnp_request_meaning.proofs.TypesTidy.{EachTidy, IsBoundTidy, by_bytes_apart, entry_in, kind_in, reached_tidy}
 
 -- ---- elements by number ----
+
+there_below : {A : Type 0} (xs : List A) (i : ℕ) → i < length xs → (x : A) × (slice_get xs i ≡ Some x)
+there_below [] i less = absurd (omega (arith, less))
+there_below (x ∷ xs) zero less = (x, refl)
+there_below (x ∷ xs) (suc i) less = there_below xs i (omega (arith, less))
 
 name_there : (ns : List Node) (i : ℕ) (n : Node) → slice_get ns i ≡ Some n → name_of (names_of ns) i ≡ n.display_name
 name_there [] i n e = absurd (cc)
@@ -115,22 +120,7 @@ id_there [] a id h = absurd (cc)
 id_there (e ∷ es) zero id h = (e, refl)
 id_there (e ∷ es) (suc a) id h = id_there es a id h
 
-module _ (r : RequestTerm) (strict : Bool) (set : Schemas) (is : IsSetOf r strict set) (told : AreStructsToldApart r.nodes) where
-  abbrev names : HasOwnNames r.nodes
-  names = told.own
-
-  abbrev bare : HasBareNames r.nodes
-  bare = told.bare
-
-  abbrev clear : HasClearNames r.nodes
-  clear = told.clear
-
-  abbrev distinct : HasDistinctNames r.nodes
-  distinct = told.distinct
-
-  abbrev are_plain : AreNodesPlain r.nodes
-  are_plain = told.are_plain
-
+module _ (r : RequestTerm) (strict : Bool) (set : Schemas) (is : IsSetOf r strict set) (names : HasOwnNames r.nodes) (bare : HasBareNames r.nodes) (clear : HasClearNames r.nodes) (distinct : HasDistinctNames r.nodes) (are_plain : AreNodesPlain r.nodes) where
   abbrev k : Numbers
   k = numbers_in r strict is.entries set
 
@@ -301,4 +291,4 @@ module _ (r : RequestTerm) (strict : Bool) (set : Schemas) (is : IsSetOf r stric
       go smaller (inr (inr h)) = absurd (not_before l smaller j i f e m n (omega (arith, j_less)) (omega (arith, i_less)) b a (sym same) h)
 
 pub names_own : BoundNamesAreOwn
-names_own r strict set is told i j e f n m a b same = own_below r strict set is told (suc (i + j)) i j e f n m (omega arith) (omega arith) a b same
+names_own r strict set is names bare clear distinct are_plain i j e f n m a b same = own_below r strict set is names bare clear distinct are_plain (suc (i + j)) i j e f n m (omega arith) (omega arith) a b same

@@ -11,7 +11,7 @@ use Rattle.capnp_request.specs.Order.{Begun, Made, and_said, begin_enum, begin_s
 use Rattle.capnp_request.specs.Scopes.{node_named}
 use Rattle.capnp_request.specs.Terms.{RequestTerm, Said, SchemaNode}
 use Rattle.capnp_request.specs.Work.{Entry, GroupOf, Named, Place, Whole}
-use Rattle.capnp_request_meaning.specs.Meaning.{AreGroupsDistinct, AreFirstEnums, IsEnumNamed, IsNameOf}
+use Rattle.capnp_request_meaning.specs.Meaning.{AreFirstEnums, IsEnumNamed, IsNameOf}
 use Rattle.capnp_request_meaning.specs.Passed.{IsNamedAs, IsPassed, LongEnumName, LongName, bounds}
 use Rattle.capnp_request_meaning.specs.Sound.{IsNodeSound, IsTextFor}
 use Rattle.capnp_request_meaning.proofs.ListsFound.{Next, next_of}
@@ -124,7 +124,7 @@ module _ (r : RequestTerm) (strict : Bool) (sound : AreNodesSound (bounds strict
 
   -- ---- what an entry begins with ----
 
-  module _ (m : Made) (e : Entry) (s : Named) (made : AreMade r.nodes strict m s) (here : slice_get s.entries (length m.nodes) ≡ Some e) (fine : Fine r strict (Stay r.nodes) s) (once : AreGroupsDistinct s.entries) (fit : IsFit r.nodes s) where
+  module _ (m : Made) (e : Entry) (s : Named) (made : AreMade r.nodes strict m s) (here : slice_get s.entries (length m.nodes) ≡ Some e) (fine : Fine r strict (Stay r.nodes) s) (fit : IsFit r.nodes s) where
     abbrev with_node : List (List ℕ) → List ℕ × List Holder → SchemaNode → Said Begun
     with_node names named n = Ok (record { enum_names = names; name = named.0; holders = named.1; node = n })
 
@@ -145,10 +145,10 @@ module _ (r : RequestTerm) (strict : Bool) (sound : AreNodesSound (bounds strict
     bound_named names named are_plain = among_more (length m.nodes) (length m.nodes) (length s.enums) (length names) (omega arith) (names_cover r.nodes s.enums m.enum_names names named) e.bound (fit are_plain (length m.nodes) e here)
 
     enum_long : (n id : ℕ) → slice_get s.enums n ≡ Some id → (name : List ℕ) → IsEnumNamed r.nodes id name → 1024 < length name → X
-    enum_long n id there name is long = LongEnumName s.entries s.enums (led_at r strict s fine.kept.entries fine.kept.distinct once fine.reached) (record { number = n; id = id; name = name; numbered = there; is = is; long = long })
+    enum_long n id there name is long = LongEnumName s.entries s.enums (led_at r strict s fine.kept.entries fine.kept.distinct fine.reached) (record { number = n; id = id; name = name; numbered = there; is = is; long = long })
 
     entry_long : (names : List (List ℕ)) → IsLong m e s made names e.place
-    entry_long names name is long = LongName s.entries s.enums (led_at r strict s fine.kept.entries fine.kept.distinct once fine.reached)
+    entry_long names name is long = LongName s.entries s.enums (led_at r strict s fine.kept.entries fine.kept.distinct fine.reached)
         (record { earlier = made.done; entry = e; later = next.more; before = m.nodes; brands = m.brands; name = name; are = made.entries_are ∙ ap (λ xs. made.done ++ xs) next.are; made = made.meant; is = is; long = long })
 
     pub begin_passed : IfPassed X (begin_struct r.nodes m e s.enums)

@@ -14,12 +14,11 @@ use Rattle.capnp_request_meaning.specs.Laws.{BoundsArePassed}
 use Rattle.capnp_request_meaning.specs.Meaning.{AreEnumsOf, EntryAt, EnumAt, IsListed, Numbers}
 use Rattle.capnp_request_meaning.specs.Passed.{AreLed, IsPassed, LongEnumName, bounds}
 use Rattle.capnp_request_meaning.specs.Sound.{AnySaid, IsNodeSound, IsRequestSound}
-use Rattle.capnp_request_meaning.proofs.EntriesKept.{KeepsWhole, same_bound_itself, whole_entry}
+use Rattle.capnp_request_meaning.proofs.EntriesKept.{same_bound_itself, whole_entry}
 use Rattle.capnp_request_meaning.proofs.EnumsCounted.{AreOnce, HaveNodes, ids_fit}
 use Rattle.capnp_request_meaning.proofs.EnumsMeant.{IsEnumAdded, enum_added}
 use Rattle.capnp_request_meaning.proofs.FieldsLed.{Reached}
-use Rattle.capnp_request_meaning.proofs.FieldsPassed.{WithGroups, enum_made_passed, struct_made_passed}
-use Rattle.capnp_request_meaning.proofs.GroupsOnce.{IfOnceAt, IsOnceAt, enum_step_once, once_none, once_whole, struct_step_once}
+use Rattle.capnp_request_meaning.proofs.FieldsPassed.{enum_made_passed, struct_made_passed}
 use Rattle.capnp_request_meaning.proofs.ListsFound.{same_some, still_at}
 use Rattle.capnp_request_meaning.proofs.NamesMeant.{IsBegun, IsEnumBegun, enum_begun, struct_begun}
 use Rattle.capnp_request_meaning.proofs.NamesPassed.{begin_enum_passed, begin_passed}
@@ -29,7 +28,7 @@ use Rattle.capnp_request_meaning.proofs.ReachedAll.{AllReached, AreListed, enum_
 use Rattle.capnp_request_meaning.proofs.RootsMeant.{AreRooted, HasRoot, files_named, root_named, there_of}
 use Rattle.capnp_request_meaning.proofs.ScopesKept.{never_many, scopes_unbound, scopes_without}
 use Rattle.capnp_request_meaning.proofs.TypesMeant.{numbers}
-use Rattle.capnp_request_meaning.proofs.TypesPassed.{After, Fine, KeepsEntries, fine_after, led_at, number_passed}
+use Rattle.capnp_request_meaning.proofs.TypesPassed.{After, Fine, fine_after, led_at, number_passed}
 use Rattle.capnp_request_meaning.proofs.TypesSound.{scopes_said}
 use Rattle.capnp_request_meaning.proofs.WorkPassed.{IfPassed, done_at, passed_bind, passed_from, passed_so}
 use Rattle.capnp_request_meaning.proofs.Works.{Done, Grows, entry_still, enum_still, grows_none, grows_on}
@@ -44,51 +43,36 @@ module _ (r : RequestTerm) (strict : Bool) (sound : IsRequestSound (bounds stric
   abbrev X : Type 0
   X = IsPassed r strict
 
-  -- what is kept where so many structs are made
-  abbrev S : ℕ → List Entry → Type 0
-  S n = WithGroups (Stay r.nodes) n 0
+  abbrev F : Named → Type 0
+  F = Fine r strict (Stay r.nodes)
 
-  abbrev F : ℕ → Named → Type 0
-  F n = Fine r strict (S n)
-
-  whole_kept : (n : ℕ) → KeepsWhole (S n) r.nodes
-  whole_kept n es id bound few none scopes k = (stay_whole r.nodes es id bound few none scopes k.0, once_whole n 0 r.nodes es id bound few none scopes k.1)
-
-  keeps : (n : ℕ) → KeepsEntries r.nodes (S n)
-  keeps n = record { whole = whole_kept n; stay = λ es k. k.0; once = λ es k. k.1.once }
-
-  led : (n : ℕ) (s : Named) → F n s → AreLed r (numbers r.nodes strict s)
-  led n s fine = led_at r strict s fine.kept.0.entries fine.kept.0.distinct fine.kept.1.once fine.reached
-
-  only_stay : (n : ℕ) (s : Named) → F n s → Fine r strict (Stay r.nodes) s
-  only_stay n s fine = record { kept = fine.kept.0; reached = fine.reached }
+  led : (s : Named) → F s → AreLed r (numbers r.nodes strict s)
+  led s fine = led_at r strict s fine.kept.entries fine.kept.distinct fine.reached
 
   -- ---- one step ----
 
-  struct_passed : (m : Made) (e : Entry) (s : Named) → slice_get s.entries (length m.nodes) ≡ Some e → F (length m.nodes) s → AreMade r.nodes strict m s → IsFit r.nodes s → IfPassed X (make_struct r.nodes strict m e s)
+  struct_passed : (m : Made) (e : Entry) (s : Named) → slice_get s.entries (length m.nodes) ≡ Some e → F s → AreMade r.nodes strict m s → IsFit r.nodes s → IfPassed X (make_struct r.nodes strict m e s)
   struct_passed m e s here fine made fit =
-      passed_from X (begin_struct r.nodes m e s.enums) (add_struct r.nodes strict m e.node e.bound) s (begin_passed r strict sound.nodes m e s made here (only_stay (length m.nodes) s fine) fine.kept.1.once fit) (λ b h.
+      passed_from X (begin_struct r.nodes m e s.enums) (add_struct r.nodes strict m e.node e.bound) s (begin_passed r strict sound.nodes m e s made here fine fit) (λ b h.
       let begun : IsBegun r.nodes m e b = struct_begun r.nodes m e s.enums b h in
       let less : length m.nodes < length s.entries = slice_get_within s.entries (length m.nodes) e here in
       passed_bind X (struct_made r.nodes strict (length m.nodes) e.node e.bound b.name b.node) (λ made. work_of (with_struct r.nodes strict m b made)) s
       (struct_made_passed r strict sound.nodes (StayWith r.nodes (length m.nodes) e) (with_whole r.nodes (length m.nodes) e) (λ es k. k.1) (length m.nodes) e.node e.bound b.name b.node (sound.nodes e.node b.node begun.first)
-      (record {
-        groups = with_groups r.nodes (length m.nodes) e b.node begun.first;
-        stays = λ part members struct listed es i id f there is k. group_stays r.nodes (length m.nodes) e b.node part members begun.first struct listed es i id f there is k;
-      }) s
+      (with_groups r.nodes (length m.nodes) e b.node begun.first)
+      (λ part members struct listed es i id f there is k. group_stays r.nodes (length m.nodes) e b.node part members begun.first struct listed es i id f there is k) s
       (λ z g. (fine.reached (EntryAt (length m.nodes)) (omega arith, less) z g, (e, entry_still s z g (length m.nodes) e here, refl, begun.first)))
-      (record { kept = ((here, fine.kept.0), fine.kept.1); reached = fine.reached }))
+      (record { kept = (here, fine.kept); reached = fine.reached }))
       (λ p q. tt))
 
-  enum_passed : (m : Made) (id : ℕ) (s : Named) → slice_get s.enums (length m.enums) ≡ Some id → F (length m.nodes) s → IfPassed X (make_enum r.nodes strict m id s)
+  enum_passed : (m : Made) (id : ℕ) (s : Named) → slice_get s.enums (length m.enums) ≡ Some id → F s → IfPassed X (make_enum r.nodes strict m id s)
   enum_passed m id s here fine =
       passed_from X (begin_enum r.nodes id) (λ b. enum_made r.nodes strict id b.0 b.1 >>= (λ e. work_of (record m { enums = m.enums ++ e ∷ [] }))) s
-      (begin_enum_passed r strict sound.nodes id (λ name is long. LongEnumName s.entries s.enums (led (length m.nodes) s fine) (record { number = length m.enums; id = id; name = name; numbered = here; is = is; long = long })))
+      (begin_enum_passed r strict sound.nodes id (λ name is long. LongEnumName s.entries s.enums (led s fine) (record { number = length m.enums; id = id; name = name; numbered = here; is = is; long = long })))
       (λ b h.
       let begun : IsEnumBegun r.nodes id b.0 b.1 = enum_begun r.nodes id b h in
       let less : length m.enums < length s.enums = slice_get_within s.enums (length m.enums) id here in
       passed_bind X (enum_made r.nodes strict id b.0 b.1) (λ e. work_of (record m { enums = m.enums ++ e ∷ [] })) s
-      (enum_made_passed r strict sound.nodes (S (length m.nodes)) (keeps (length m.nodes)) (length m.enums) id b.0 b.1 (sound.nodes id b.1 begun.first) s
+      (enum_made_passed r strict sound.nodes (Stay r.nodes) (stay_whole r.nodes) (λ es k. k) (length m.enums) id b.0 b.1 (sound.nodes id b.1 begun.first) s
       (λ z g. (fine.reached (EnumAt (length m.enums)) (omega arith, less) z g, (id, enum_still s z g (length m.enums) id here, refl, begun.first))) fine)
       (λ p q. tt))
 
@@ -102,12 +86,12 @@ module _ (r : RequestTerm) (strict : Bool) (sound : IsRequestSound (bounds stric
   Counted steps m = (length m.nodes + length m.enums) + steps ≡ 65536 + suc (length r.nodes)
 
   -- there are always steps left
-  steps_left : (m : Made) (s : Named) → F (length m.nodes) s → AreMade r.nodes strict m s → Counted 0 m → ⊥
+  steps_left : (m : Made) (s : Named) → F s → AreMade r.nodes strict m s → Counted 0 m → ⊥
   steps_left m s fine made count =
       let all : length (made.done ++ made.rest) ≡ length made.done + length made.rest = length-append made.done made.rest in
       let entries : length s.entries ≡ length (made.done ++ made.rest) = ap (λ xs. length xs) made.entries_are in
       let done : length made.done ≡ length m.nodes = nodes_counted (numbers r.nodes strict s) [] [] made.done m.nodes m.brands made.meant in
-      let few : length s.entries ≤ 65536 = fine.kept.0.few in
+      let few : length s.entries ≤ 65536 = fine.kept.few in
       let fit : length (enum_ids m.enums) ≤ length r.nodes = ids_fit r.nodes (enum_ids m.enums) once (have_nodes (numbers r.nodes strict s) m.enums made.enumerated) in
       let enums : length (enum_ids m.enums) ≡ length m.enums = length-map m.enums (λ (e : Enum). e.id) in
       omega (arith, all, entries, done, few, fit, enums, count)
@@ -116,15 +100,15 @@ module _ (r : RequestTerm) (strict : Bool) (sound : IsRequestSound (bounds stric
       still i id there = ap (λ xs. slice_get xs i) made.enums_are ∙ still_at (enum_ids m.enums) made.more i id there
 
       once : AreOnce (enum_ids m.enums)
-      once i j id a b = let l : AreLed r (numbers r.nodes strict s) = led (length m.nodes) s fine in l.distinct_enums i j id (still i id a) (still j id b)
+      once i j id a b = let l : AreLed r (numbers r.nodes strict s) = led s fine in l.distinct_enums i j id (still i id a) (still j id b)
 
   abbrev IfAllPassed : (Made → Work Made) → ℕ → Type 0
-  IfAllPassed again steps = (m : Made) (s : Named) → F (length m.nodes) s → AreMadeLater m s → IsFit r.nodes s → Counted steps m → IfPassed X (again m s)
+  IfAllPassed again steps = (m : Made) (s : Named) → F s → AreMadeLater m s → IsFit r.nodes s → Counted steps m → IfPassed X (again m s)
 
-  step_fine : (m : Made) (s : Named) (p : Made × Named) (x : Result (Made × Named) ErrorKind) → IsStep r.nodes strict s m x → IfOnceAt r.nodes strict x → x ≡ Ok p → F (length m.nodes) s → AllReached r strict p.1 → F (length p.0.nodes) p.1
-  step_fine m s p x step once e fine reached =
+  step_fine : (m : Made) (s : Named) (p : Made × Named) (x : Result (Made × Named) ErrorKind) → IsStep r.nodes strict s m x → x ≡ Ok p → F s → AllReached r strict p.1 → F p.1
+  step_fine m s p x step e fine reached =
       let d : Done (Stay r.nodes) s p.1 (λ z. AreMade r.nodes strict m z → AreMade r.nodes strict p.0 z) = done_at (λ after t. Done (Stay r.nodes) s t (λ z. AreMade r.nodes strict m z → AreMade r.nodes strict after z)) x p step e in
-      record { kept = (d.kept fine.kept.0, done_at (λ (after : Made) t. IsOnceAt r.nodes strict after t) x p once e); reached = reached }
+      record { kept = d.kept fine.kept; reached = reached }
 
   step_made : (m : Made) (s : Named) (p : Made × Named) (x : Result (Made × Named) ErrorKind) → IsStep r.nodes strict s m x → x ≡ Ok p → AreMadeLater m s → AreMadeLater p.0 p.1
   step_made m s p x step e later z g =
@@ -149,15 +133,15 @@ module _ (r : RequestTerm) (strict : Bool) (sound : IsRequestSound (bounds stric
       let nodes : length p.0.nodes ≡ length m.nodes = ap (λ xs. length xs) added.nodes_are in
       omega (arith, more, longer, nodes, count)
 
-  next_passed : (steps : ℕ) (again : Made → Work Made) → IfAllPassed again steps → (m : Made) (s : Named) (o : Option Entry) (q : Option ℕ) → slice_get s.entries (length m.nodes) ≡ o → slice_get s.enums (length m.enums) ≡ q → F (length m.nodes) s → AreMadeLater m s → IsFit r.nodes s → Counted (suc steps) m → IfPassed X (make_next r.nodes strict again m o q s)
+  next_passed : (steps : ℕ) (again : Made → Work Made) → IfAllPassed again steps → (m : Made) (s : Named) (o : Option Entry) (q : Option ℕ) → slice_get s.entries (length m.nodes) ≡ o → slice_get s.enums (length m.enums) ≡ q → F s → AreMadeLater m s → IsFit r.nodes s → Counted (suc steps) m → IfPassed X (make_next r.nodes strict again m o q s)
   next_passed steps again h m s (Some e) q entry enum fine later fit count = passed_bind X (make_struct r.nodes strict m e) again s (struct_passed m e s entry fine (later s (grows_none s)) fit) (λ p eq.
       let step : IsStep r.nodes strict s m (make_struct r.nodes strict m e s) = struct_step r.nodes strict m e s entry fit in
       let reached : AllReached r strict p.1 = done_at (λ (after : Made) t. AllReached r strict t) (make_struct r.nodes strict m e s) p (struct_reached r strict m s fine.reached e entry) eq in
-      h p.0 p.1 (step_fine m s p (make_struct r.nodes strict m e s) step (struct_step_once r.nodes strict m e s fine.kept.1) eq fine reached) (step_made m s p (make_struct r.nodes strict m e s) step eq later) (done_at (λ (after : Made) t. IsFit r.nodes t) (make_struct r.nodes strict m e s) p (struct_fit r.nodes strict m e s entry fit) eq) (struct_counted steps m e s entry p eq count))
+      h p.0 p.1 (step_fine m s p (make_struct r.nodes strict m e s) step eq fine reached) (step_made m s p (make_struct r.nodes strict m e s) step eq later) (done_at (λ (after : Made) t. IsFit r.nodes t) (make_struct r.nodes strict m e s) p (struct_fit r.nodes strict m e s entry fit) eq) (struct_counted steps m e s entry p eq count))
   next_passed steps again h m s None (Some id) entry enum fine later fit count = passed_bind X (make_enum r.nodes strict m id) again s (enum_passed m id s enum fine) (λ p eq.
       let step : IsStep r.nodes strict s m (make_enum r.nodes strict m id s) = enum_step r.nodes strict m id s enum in
       let reached : AllReached r strict p.1 = done_at (λ (after : Made) t. AllReached r strict t) (make_enum r.nodes strict m id s) p (enum_reached r strict m s fine.reached id enum) eq in
-      h p.0 p.1 (step_fine m s p (make_enum r.nodes strict m id s) step (enum_step_once r.nodes strict m id s fine.kept.1) eq fine reached) (step_made m s p (make_enum r.nodes strict m id s) step eq later) (done_at (λ (after : Made) t. IsFit r.nodes t) (make_enum r.nodes strict m id s) p (enum_fit r.nodes strict m id s fit) eq) (enum_counted steps m id s p eq count))
+      h p.0 p.1 (step_fine m s p (make_enum r.nodes strict m id s) step eq fine reached) (step_made m s p (make_enum r.nodes strict m id s) step eq later) (done_at (λ (after : Made) t. IsFit r.nodes t) (make_enum r.nodes strict m id s) p (enum_fit r.nodes strict m id s fit) eq) (enum_counted steps m id s p eq count))
   next_passed steps again h m s None None entry enum fine later fit count = tt
 
   all_passed : (steps : ℕ) → IfAllPassed (make_all r.nodes strict steps) steps
@@ -166,13 +150,13 @@ module _ (r : RequestTerm) (strict : Bool) (sound : IsRequestSound (bounds stric
 
   -- ---- roots ----
 
-  root_passed : (id : ℕ) (n : SchemaNode) → IsListed r id → node_named r.nodes id ≡ Some n → (q : Bool) → is_root n.kind ≡ q → (s : Named) → F 0 s → IfPassed X (name_root r.nodes strict id q s)
+  root_passed : (id : ℕ) (n : SchemaNode) → IsListed r id → node_named r.nodes id ≡ Some n → (q : Bool) → is_root n.kind ≡ q → (s : Named) → F s → IfPassed X (name_root r.nodes strict id q s)
   root_passed id n listed first false is s fine = tt
   root_passed id n listed first true is s fine =
       passed_from X (scopes_of r.nodes id) (λ bound. number_struct id bound >>= (λ number. work_of [])) s (passed_so X strict AnySaid (scopes_of r.nodes id) (scopes_said (bounds strict) r.nodes sound.nodes id)) (λ bound scopes.
       passed_bind X (number_struct id bound) (λ number. work_of {A = List ℕ} []) s
-      (number_passed r strict sound.nodes (S 0) (keeps 0) id bound s (scopes ∙ ap (λ xs. Ok xs) (sym (scopes_without r.nodes id bound scopes))) fine (λ many. absurd (never_many bound (scopes_unbound r.nodes id bound scopes) many))
-      (λ x z g small added. requested r strict id n listed first (plain_of n.kind is) bound scopes x z (added.0, added.1, record { entry = whole_entry id bound; numbered = added.2; node = refl; whole = refl; same = same_bound_itself bound; few = small })))
+      (number_passed r strict sound.nodes (Stay r.nodes) (stay_whole r.nodes) (λ es k. k) id bound s (scopes ∙ ap (λ xs. Ok xs) (sym (scopes_without r.nodes id bound scopes))) fine (λ many. absurd (never_many bound (scopes_unbound r.nodes id bound scopes) many))
+      (λ x z g added. requested r strict id n listed first (plain_of n.kind is) bound scopes x z (added.0, added.1, record { entry = whole_entry id bound; numbered = added.2; node = refl; whole = refl; same = same_bound_itself bound })))
       (λ p e. tt))
 
   abbrev within : (steps : ℕ) (met : List ℕ) (id : ℕ) (ids : List ℕ) → SchemaNode → Work (List ℕ)
@@ -182,7 +166,7 @@ module _ (r : RequestTerm) (strict : Bool) (sound : IsRequestSound (bounds stric
   at_root None f s h = λ same. absurd (cc)
   at_root (Some n) f s h = h n refl
 
-  roots_passed : (steps : ℕ) (met queue : List ℕ) → AreListed r strict queue → (s : Named) → F 0 s → IfPassed X (name_roots r.nodes strict steps met queue s)
+  roots_passed : (steps : ℕ) (met queue : List ℕ) → AreListed r strict queue → (s : Named) → F s → IfPassed X (name_roots r.nodes strict steps met queue s)
   roots_passed zero met queue h s fine = tt
   roots_passed (suc steps) met [] h s fine = tt
   roots_passed (suc steps) met (id ∷ ids) h s fine = at_root (node_named r.nodes id) (within steps met id ids) s (λ n first.
@@ -190,14 +174,14 @@ module _ (r : RequestTerm) (strict : Bool) (sound : IsRequestSound (bounds stric
       let listed : IsListed r id = queue_first r strict id ids h in
       passed_from X n.nested (λ nested. name_root r.nodes strict id (is_root n.kind) >>= (λ none. name_roots r.nodes strict steps (new_ids r.nodes nested met ++ met) (ids ++ new_ids r.nodes nested met))) s (passed_so X strict AnySaid n.nested is.nested) (λ nested said.
       passed_bind X (name_root r.nodes strict id (is_root n.kind)) (λ none. name_roots r.nodes strict steps (new_ids r.nodes nested met ++ met) (ids ++ new_ids r.nodes nested met)) s (root_passed id n listed first (is_root n.kind) refl s fine) (λ p e.
-      let after : After r strict (S 0) (λ (none : List ℕ) z. is_root n.kind ≡ true → HasRoot z.entries id) s p = fine_after r strict sound.nodes (S 0) (keeps 0) (name_root r.nodes strict id (is_root n.kind)) (λ (none : List ℕ) z. is_root n.kind ≡ true → HasRoot z.entries id) (Reached r strict) s
-      (root_named (S 0) r.nodes (whole_kept 0) strict id (is_root n.kind)) (root_led r strict id n listed first (is_root n.kind) refl) (λ x z g k. k) fine p e in
+      let after : After r strict (Stay r.nodes) (λ (none : List ℕ) z. is_root n.kind ≡ true → HasRoot z.entries id) s p = fine_after r strict sound.nodes (Stay r.nodes) (stay_whole r.nodes) (λ es k. k) (name_root r.nodes strict id (is_root n.kind)) (λ (none : List ℕ) z. is_root n.kind ≡ true → HasRoot z.entries id) (Reached r strict) s
+      (root_named (Stay r.nodes) r.nodes (stay_whole r.nodes) strict id (is_root n.kind)) (root_led r strict id n listed first (is_root n.kind) refl) (λ x z g k. k) fine p e in
       roots_passed steps (new_ids r.nodes nested met ++ met) (ids ++ new_ids r.nodes nested met) (queue_later r strict id ids met n nested h first said) p.1 after.fine)))
 
   -- ---- the request ----
 
-  nothing_fine : F 0 nothing_named
-  nothing_fine = record { kept = (stay_none r.nodes, once_none 0 0); reached = none }
+  nothing_fine : F nothing_named
+  nothing_fine = record { kept = stay_none r.nodes; reached = none }
     where
       none : AllReached r strict nothing_named
       none (EntryAt n) is z g = absurd (omega (arith, is.1))
@@ -209,8 +193,8 @@ module _ (r : RequestTerm) (strict : Bool) (sound : IsRequestSound (bounds stric
 
   convert_passed : IfPassed X (convert r strict nothing_named)
   convert_passed = passed_bind X (name_files r.nodes strict r.files) (λ none. make_all r.nodes strict (65536 + suc (length r.nodes)) nothing_made) nothing_named files_passed (λ p e.
-      let after : After r strict (S 0) (λ (none : List ℕ) z. AreRooted r z.entries) nothing_named p = fine_after r strict sound.nodes (S 0) (keeps 0) (name_files r.nodes strict r.files) (λ (none : List ℕ) z. AreRooted r z.entries) (Reached r strict) nothing_named
-      (files_named (S 0) r (whole_kept 0) strict) (files_led r strict) (λ x z g k. k) nothing_fine p e in
+      let after : After r strict (Stay r.nodes) (λ (none : List ℕ) z. AreRooted r z.entries) nothing_named p = fine_after r strict sound.nodes (Stay r.nodes) (stay_whole r.nodes) (λ es k. k) (name_files r.nodes strict r.files) (λ (none : List ℕ) z. AreRooted r z.entries) (Reached r strict) nothing_named
+      (files_named (Stay r.nodes) r (stay_whole r.nodes) strict) (files_led r strict) (λ x z g k. k) nothing_fine p e in
       all_passed (65536 + suc (length r.nodes)) nothing_made p.1 after.fine (λ z g. none_made r.nodes strict z) (done_at (λ (none : List ℕ) t. IsFit r.nodes t) (name_files r.nodes strict r.files nothing_named) p (files_fit r.nodes strict r.files) e) (omega arith))
 
 result_passed : (X : Type 0) (x : Result (Made × Named) ErrorKind) → IfPassed X x → result_of x ≡ Err TooManyTypes → X

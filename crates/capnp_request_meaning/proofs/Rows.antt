@@ -102,7 +102,7 @@ row_group : IsKindOf row_numbers [] 0 1 (GroupTerm 3) (Group 1) (plain (StructTy
 row_group = (refl, refl)
 
 row_enum_type : IsTypeOf row_numbers [] (ListTerm (EnumTerm 5)) (plain (ListType (EnumType 0)))
-row_enum_type = (plain (EnumType 0), refl, (0, refl, refl), omega arith)
+row_enum_type = (plain (EnumType 0), refl, (0, refl, refl))
 
 row_enums : AreEnumsOf row_numbers row_set.enums
 unfolding is_utf8 chars encode
@@ -215,7 +215,7 @@ with_marks annotations = record { name = codes "f"; discriminant_value = 65535; 
 
 row_marked : IsFieldOf row_numbers [] 0 0 floats (with_marks (mark ∷ [])) (ListType (UIntType 4)) (VoidType ∷ [])
 unfolding is_utf8 chars encode
-row_marked = record { said = list_of (float_of 4); own = []; own_types = []; name = refl; text = refl; discriminant_value = refl; annotations = tt; marked = (refl, refl); kind = (refl, refl, (float_of 4, refl, (refl, refl), omega arith)); stands = refl }
+row_marked = record { said = list_of (float_of 4); own = []; own_types = []; name = refl; text = refl; discriminant_value = refl; annotations = tt; marked = (refl, refl); kind = (refl, refl, (float_of 4, refl, (refl, refl))); stands = refl }
 
 abbrev FieldSays : List Annotation → List SchemaType → Type 0
 FieldSays annotations types = IsFieldOf row_numbers [] 0 0 floats (with_marks annotations) (ListType (UIntType 4)) types
@@ -241,7 +241,7 @@ row_order h = let e : first_byte (Ok (codes "p")) ≡ first_byte (Ok (codes "q")
 -- a set without the struct of the file
 pub row_missing : IsSetOf request false (record { nodes = []; brands = []; enums = [] }) → ⊥
 row_missing h =
-    let found : IsFound h.entries (record { nodes = []; brands = []; enums = [] }) 2 first_node = h.roots 2 first_node (struct_part false 2 first_fields) (NestedIn 1 file_node (2 ∷ 5 ∷ []) 2 (OfFile (1 ∷ []) 1 refl refl) refl refl refl) refl refl refl in
+    let found : IsFound (record { nodes = []; brands = []; enums = [] }) 2 first_node = h.roots 2 first_node (struct_part false 2 first_fields) (NestedIn 1 file_node (2 ∷ 5 ∷ []) 2 (OfFile (1 ∷ []) 1 refl refl) refl refl refl) refl refl refl in
     nothing_at found.number found.node found.numbered
 
 abbrev twins : RequestTerm

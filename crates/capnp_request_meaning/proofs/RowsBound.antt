@@ -1,22 +1,16 @@
 -- A worked row of a bound that is passed: a type that binds one type more than may be bound.
-use Rattle.std.proofs.Common.{ℕ, zero, suc, ◌≡◌, ◌≢◌, codes, refl, false, List, [], ◌∷◌, Ok, Err}
+use Rattle.std.proofs.Common.{ℕ, zero, suc, ◌≡◌, codes, refl, false, List, [], ◌∷◌, Ok, Err}
 use Rattle.std.specs.Str.{chars, is_utf8}
 use lib.Utf8.{encode}
 use Rattle.capnp_device.specs.declared.error.ErrorKind.TheVariants.{TooManyTypes}
 use Rattle.capnp_schema.specs.Types.{TextType}
-use Rattle.capnp_schema.specs.Schema.{Schemas}
-use Rattle.capnp_request.specs.Conversion.{Note}
 use Rattle.capnp_request.specs.Order.{conversion_of}
 use Rattle.capnp_request.specs.Terms.{Binds, BindingTerms, MemberTerm, MoreBindings, MoreScopes, NoBindings, NoScopes, OtherNode, RequestTerm, SchemaNode, StructNode, StructTerm}
-use Rattle.capnp_request.specs.Work.{Entry}
-use Rattle.capnp_request_meaning.specs.Passed.{AreLed, IsBoundMuch, IsPassed, ManyBound, bounds, numbers_of}
-use Rattle.capnp_request_meaning.specs.Plain.{AreNodesPlain, AreTermsPlain}
+use Rattle.capnp_request_meaning.specs.Passed.{IsPassed, bounds}
 use Rattle.capnp_request_meaning.specs.Sound.{AreTypesSound, IsRequestSound, Refusal}
-use Rattle.capnp_request_meaning.proofs.BoundsRefused.{bounds_refused}
 use Rattle.capnp_request_meaning.proofs.OrderPassed.{bounds_passed}
 use Rattle.capnp_request_meaning.proofs.Rows.{node, slot, struct_part}
 use Rattle.capnp_request_meaning.proofs.RowsSound.{all_sound}
-use Rattle.capnp_request_meaning.proofs.TermsPlain.{named_plain}
 
 abbrev texts : ℕ → BindingTerms
 texts zero = NoBindings
@@ -55,15 +49,3 @@ wide_sound = record {
 -- so it passes a bound
 pub row_much : IsPassed (wide 1025) false
 row_much = bounds_passed (wide 1025) false wide_sound wide_refused
-
--- ---- and where one is, no set is made ----
-
-wide_plain : AreNodesPlain (wide 1025).nodes
-wide_plain = named_plain (wide 1025).nodes ((tt, tt), (((((texts_plain 1025, tt), tt), tt), tt), ((tt, tt), tt)))
-  where
-    texts_plain : (count : ℕ) → AreTermsPlain (texts count)
-    texts_plain zero = tt
-    texts_plain (suc count) = (tt, texts_plain count)
-
-row_refused : (entries : List Entry) (enums : List ℕ) → AreLed (wide 1025) (numbers_of (wide 1025) false entries enums) → IsBoundMuch (wide 1025) (numbers_of (wide 1025) false entries enums) → (set : Schemas) (notes : List Note) → conversion_of (wide 1025) false ≢ Ok (set, notes)
-row_refused entries enums led much set notes = bounds_refused (wide 1025) false wide_plain (ManyBound entries enums led much) tt set notes

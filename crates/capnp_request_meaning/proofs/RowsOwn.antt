@@ -10,26 +10,27 @@ use Rattle.capnp_request.specs.Scopes.{node_named, scopes_of, some_where}
 use Rattle.capnp_request.specs.Terms.{Binds, FieldTerm, MemberTerm, MoreBindings, MoreScopes, NoBindings, NoScopes, OtherNode, RequestTerm, Said, SchemaNode, StructNode, StructPart, StructTerm, TypeTerm}
 use Rattle.capnp_request.specs.Types.{is_enum, is_struct_kind}
 use Rattle.capnp_request.specs.Work.{Bound}
+use Rattle.capnp_request_meaning.specs.Laws.{HasOwnNames}
 use Rattle.capnp_request_meaning.specs.Meaning.{IsRead}
 use Rattle.capnp_request_meaning.specs.Plain.{AllRead, AreNodesPlain}
-use Rattle.capnp_request_meaning.specs.Written.{AreStructsToldApart, HasBareNames, HasClearNames, HasDistinctNames, HasNoComma, HaveOwnParts, IsBare, built_in_names, is_among, is_type_node, HasOwnNames}
+use Rattle.capnp_request_meaning.specs.Written.{HasBareNames, HasClearNames, HasDistinctNames, HasNoComma, HaveOwnParts, IsBare, built_in_names, is_among, is_type_node}
 use Rattle.capnp_request_meaning.proofs.Rows.{box_node, names_in, node, slot, struct_part}
 use Rattle.capnp_request_meaning.proofs.TermsPlain.{named_plain}
 use Rattle.capnp_request_meaning.proofs.TypesTidy.{read_at}
 
-abbrev pub box_with : TypeTerm → TypeTerm
+abbrev box_with : TypeTerm → TypeTerm
 box_with t = StructTerm 4 (MoreScopes 4 (Binds (MoreBindings t NoBindings)) NoScopes)
 
-abbrev pub user_fields : List FieldTerm
+abbrev user_fields : List FieldTerm
 user_fields = slot (codes "a") 65535 0 (box_with (MemberTerm TextType)) ∷ slot (codes "b") 65535 1 (box_with (MemberTerm DataType)) ∷ []
 
-abbrev pub user_node : SchemaNode
+abbrev user_node : SchemaNode
 user_node = node 5 (codes "x.capnp:U") 1 [] (StructNode (struct_part false 0 user_fields))
 
-abbrev pub file_node : SchemaNode
+abbrev file_node : SchemaNode
 file_node = node 1 (codes "x.capnp") 0 (4 ∷ 5 ∷ []) OtherNode
 
-abbrev pub boxes : RequestTerm
+abbrev boxes : RequestTerm
 boxes = record { nodes = file_node ∷ box_node ∷ user_node ∷ []; files = Ok (1 ∷ []) }
 
 boxes_named : names_in (conversion_of boxes false) ≡ Ok (codes "Box" ∷ codes "U" ∷ codes "Box(Text)" ∷ codes "Box(Data)" ∷ [])
@@ -153,7 +154,3 @@ boxes_distinct = record {
 
 pub boxes_plain : AreNodesPlain boxes.nodes
 boxes_plain = named_plain boxes.nodes ((tt, tt), ((tt, tt), ((((((tt, tt), tt), tt), ((((tt, tt), tt), tt), tt)), tt), tt)))
-
--- so they are told apart
-pub boxes_told : AreStructsToldApart boxes.nodes
-boxes_told = record { own = boxes_own; bare = boxes_bare; clear = boxes_clear; distinct = boxes_distinct; are_plain = boxes_plain }

@@ -24,7 +24,7 @@ row_group_reached = ByGroup 1 0 1 (record { node = 3; bound = []; place = GroupO
 
 row_enum_reached : IsReached request row_numbers (EnumAt 0)
 row_enum_reached = ByField (EnumAt 0) (EntryAt 0) first_node [] (struct_part false 2 first_fields) 2 (slot (codes "e") 1 4 (EnumTerm 5)) 4 (EnumTerm 5) (Stands VoidValue) row_requested (record { node = 2; bound = []; place = Whole }, refl, refl, refl) refl
-    (record { list = map (λ (f : FieldTerm). Ok f) first_fields; said = refl; there = refl }) refl (record { inner = EnumTerm 5; stands = refl; target = (refl, refl, omega arith) })
+    (record { list = map (λ (f : FieldTerm). Ok f) first_fields; said = refl; there = refl }) refl (record { inner = EnumTerm 5; stands = refl; target = (refl, refl) })
 
 -- the enum of the type that an annotation of a struct is declared with
 abbrev annotation : AnnotationTerm
@@ -47,7 +47,7 @@ row_annotation_reached =
     ByAnnotation (EnumAt 0) (EntryAt 0) annotated_node [] annotation
     (Requested 0 (record { node = 2; bound = []; place = Whole }) annotated_node (struct_part false 0 []) refl refl tt (NestedIn 1 (node 1 (codes "x.capnp") 0 (2 ∷ []) OtherNode) (2 ∷ []) 2 (OfFile (1 ∷ []) 1 refl refl) refl refl refl) refl refl refl)
     (record { node = 2; bound = []; place = Whole }, refl, refl, refl) (OfNode 0 (record { list = Ok annotation ∷ []; said = refl; there = refl }))
-    (ByDeclaration declaration (EnumTerm 5) [] refl refl refl tt (record { inner = EnumTerm 5; stands = refl; target = (refl, refl, omega arith) }))
+    (ByDeclaration declaration (EnumTerm 5) [] refl refl refl tt (record { inner = EnumTerm 5; stands = refl; target = (refl, refl) }))
 
 -- ---- what they don't lead to ----
 

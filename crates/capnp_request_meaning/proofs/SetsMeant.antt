@@ -12,9 +12,8 @@ use Rattle.capnp_request.specs.Terms.{AnnotationTerm, EnumTerm, Float32, Float64
 use Rattle.capnp_request.specs.Types.{enum_position, is_enum, is_of_kind, is_root}
 use Rattle.capnp_request.specs.Work.{Bound, Entry, Named, work_continued}
 use Rattle.capnp_request_meaning.specs.Laws.{IsSetOfRecord, SetMeansItsRecord, SetMeansItsRequest}
-use Rattle.capnp_request_meaning.specs.Meaning.{AnnotationLeads, AreEnumsOf, AreNodesFrom, ByAnnotation, ByBrand, ByDeclaration, ByField, ByGroup, EntryAt, EnumAt, IsEntryName, IsFound, IsListed, IsNameOf, IsNodeOf, IsReached, IsSetOf, IsTarget, Numbers, Requested, Target, AreGroupsDistinct}
+use Rattle.capnp_request_meaning.specs.Meaning.{AnnotationLeads, AreEnumsOf, AreNodesFrom, ByAnnotation, ByBrand, ByDeclaration, ByField, ByGroup, EntryAt, EnumAt, IsEntryName, IsFound, IsListed, IsNameOf, IsNodeOf, IsReached, IsSetOf, IsTarget, Numbers, Requested, Target}
 use Rattle.capnp_request_meaning.proofs.EntriesKept.{FoundAt, found_enum}
-use Rattle.capnp_request_meaning.proofs.GroupsOnce.{IfAllOnce, IfOnce, all_once, files_once}
 use Rattle.capnp_request_meaning.proofs.ListsFound.{before_or_last, none_left, same_some}
 use Rattle.capnp_request_meaning.proofs.NamesMeant.{name_by}
 use Rattle.capnp_request_meaning.proofs.NumbersKept.{IsFit, files_fit}
@@ -53,44 +52,24 @@ first_more before n ms firsts next l x h = go (before_or_last before n l x h)
     go (inl old) = firsts l x old
     go (inr new) = ap (λ q. slice_get ms q) new.0 ∙ (next ∙ ap (λ y. Some y) new.1)
 
--- entries and nodes from one number on, behind those before them
-pub record AreBehind (all earlier es : List Entry) (before ns ms : List Node) : Type 0 where
-  pub are : all ≡ earlier ++ es
-  pub both : length before ≡ length earlier
-  pub firsts : AreFirst before ms
-  pub sits : (l : ℕ) → slice_get ns l ≡ slice_get ms (length earlier + l)
-
-pub none_behind : (es : List Entry) (ns : List Node) → AreBehind es [] es [] ns ns
-none_behind es ns = record { are = refl; both = refl; firsts = λ l x h. absurd (cc); sits = λ l. let e : l ≡ 0 + l = omega arith in ap (λ q. slice_get ns q) e }
-
--- and those behind the next one
-pub one_behind : (all earlier es : List Entry) (x : Entry) (before ns ms : List Node) (n : Node) → AreBehind all earlier (x ∷ es) before (n ∷ ns) ms → AreBehind all (earlier ++ x ∷ []) es (before ++ n ∷ []) ns ms
-one_behind all earlier es x before ns ms n h =
-    let longer : length (earlier ++ x ∷ []) ≡ length earlier + 1 = length-append earlier (x ∷ []) in
-    let more : length (before ++ n ∷ []) ≡ length before + 1 = length-append before (n ∷ []) in
-    let here : length earlier + 0 ≡ length before = omega (arith, h.both) in
-    record {
-      are = h.are ∙ sym (append_assoc earlier (x ∷ []) es);
-      both = omega (arith, more, longer, h.both);
-      firsts = first_more before n ms h.firsts (ap (λ q. slice_get ms q) (sym here) ∙ sym (h.sits 0));
-      sits = λ l. let e : length earlier + suc l ≡ length (earlier ++ x ∷ []) + l = omega (arith, longer) in h.sits (suc l) ∙ ap (λ q. slice_get ms q) e;
-    }
-
-abbrev pub node_here : (k : Numbers) (all earlier es : List Entry) (x e : Entry) (before ns ms : List Node) (n : Node) (b : Brand) (j : ℕ) → IsNodeOf k earlier before x n b → x ≡ e → j ≡ length earlier + 0 → AreBehind all earlier (x ∷ es) before (n ∷ ns) ms → NodeAt k all e ms j
-node_here k all earlier es x e before ns ms n b j is same count h =
+node_from : (k : Numbers) (all earlier : List Entry) (before : List Node) (es : List Entry) (ns : List Node) (bs : List Brand) (i j : ℕ) (e : Entry) → AreNodesFrom k earlier before es ns bs → slice_get es i ≡ Some e → all ≡ earlier ++ es → j ≡ length earlier + i → length before ≡ length earlier → (ms : List Node) → AreFirst before ms → ((l : ℕ) → slice_get ns l ≡ slice_get ms (length earlier + l)) → NodeAt k all e ms j
+node_from k all earlier before [] [] [] i j e h at_i are count both ms firsts sits = absurd (cc)
+node_from k all earlier before (x ∷ es) (n ∷ ns) (b ∷ bs) zero j e h at_i are count both ms firsts sits =
+    let same : x ≡ e = same_some at_i in
+    let here : j ≡ length earlier + 0 = count in
     let whole : length earlier ≡ j = omega (arith, count) in
-    record { earlier = earlier; rest = x ∷ es; before = before; node = n; brand = b; there = ap (λ l. slice_get ms l) count ∙ sym (h.sits 0); are = h.are; count = whole; behind = omega (arith, whole, h.both); firsts = h.firsts; is = subst (λ y. IsNodeOf k earlier before y n b) same is }
-
-node_from : (k : Numbers) (all earlier : List Entry) (before : List Node) (es : List Entry) (ns : List Node) (bs : List Brand) (i j : ℕ) (e : Entry) → AreNodesFrom k earlier before es ns bs → slice_get es i ≡ Some e → j ≡ length earlier + i → (ms : List Node) → AreBehind all earlier es before ns ms → NodeAt k all e ms j
-node_from k all earlier before [] [] [] i j e h at_i count ms behind = absurd (cc)
-node_from k all earlier before (x ∷ es) (n ∷ ns) (b ∷ bs) zero j e h at_i count ms behind = node_here k all earlier es x e before ns ms n b j h.0 (same_some at_i) count behind
-node_from k all earlier before (x ∷ es) (n ∷ ns) (b ∷ bs) (suc i) j e h at_i count ms behind =
+    record { earlier = earlier; rest = x ∷ es; before = before; node = n; brand = b; there = ap (λ l. slice_get ms l) here ∙ sym (sits 0); are = are; count = whole; behind = omega (arith, whole, both); firsts = firsts; is = subst (λ y. IsNodeOf k earlier before y n b) same h.0 }
+node_from k all earlier before (x ∷ es) (n ∷ ns) (b ∷ bs) (suc i) j e h at_i are count both ms firsts sits =
     let longer : length (earlier ++ x ∷ []) ≡ length earlier + 1 = length-append earlier (x ∷ []) in
-    node_from k all (earlier ++ x ∷ []) (before ++ n ∷ []) es ns bs i j e h.1 at_i (omega (arith, count, longer)) ms (one_behind all earlier es x before ns ms n behind)
-node_from k all earlier before es ns bs i j e h at_i count ms behind = absurd h
+    let next : j ≡ length (earlier ++ x ∷ []) + i = omega (arith, count, longer) in
+    node_from k all (earlier ++ x ∷ []) (before ++ n ∷ []) es ns bs i j e h.1 at_i (are ∙ sym (append_assoc earlier (x ∷ []) es)) next (let more : length (before ++ n ∷ []) ≡ length before + 1 = length-append before (n ∷ []) in omega (arith, more, longer, both)) ms (first_more before n ms firsts (let e : length earlier + 0 ≡ length before = omega (arith, both) in ap (λ q. slice_get ms q) (sym e) ∙ sym (sits 0)))
+    (λ l. let e : length earlier + suc l ≡ length (earlier ++ x ∷ []) + l = omega (arith, longer) in sits (suc l) ∙ ap (λ q. slice_get ms q) e)
+node_from k all earlier before es ns bs i j e h at_i are count both ms firsts sits = absurd h
 
 pub node_of_entry : (k : Numbers) (es : List Entry) (ns : List Node) (bs : List Brand) (i : ℕ) (e : Entry) → AreNodesFrom k [] [] es ns bs → slice_get es i ≡ Some e → NodeAt k es e ns i
-node_of_entry k es ns bs i e h at_i = let start : i ≡ 0 + i = omega arith in node_from k es [] [] es ns bs i i e h at_i start ns (none_behind es ns)
+node_of_entry k es ns bs i e h at_i =
+    let start : i ≡ 0 + i = omega arith in
+    node_from k es [] [] es ns bs i i e h at_i refl start refl ns (λ l x h. absurd (cc)) (λ l. let e : l ≡ 0 + l = omega arith in ap (λ q. slice_get ns q) e)
 
 same_node : (o : Option SchemaNode) (m n : SchemaNode) → o ≡ Some m → o ≡ Some n → m ≡ n
 same_node o m n e f = let h : ◌≡◌ {A = Option SchemaNode} (Some m) (Some n) = sym e ∙ f in cc
@@ -99,7 +78,7 @@ root_of : (k : NodeKind) (part : StructPart) → k ≡ StructNode part → part.
 root_of k part e g = ap is_root e ∙ ap not g
 
 found_of : (r : RequestTerm) (k : Numbers) → k.nodes ≡ r.nodes → (entries : List Entry) (set : Schemas) → AreNodesFrom k [] [] entries set.nodes set.brands → AreRooted r entries
-    → (id : ℕ) (n : SchemaNode) (part : StructPart) → IsListed r id → node_named r.nodes id ≡ Some n → n.kind ≡ StructNode part → part.is_group ≡ false → IsFound entries set id n
+    → (id : ℕ) (n : SchemaNode) (part : StructPart) → IsListed r id → node_named r.nodes id ≡ Some n → n.kind ≡ StructNode part → part.is_group ≡ false → IsFound set id n
 found_of r k same_list entries set meant rooted id n part listed first struct group =
     let root : HasRoot entries id = rooted id n listed first (root_of n.kind part struct group) in
     let node : NodeAt k entries root.entry set.nodes root.number = node_of_entry k entries set.nodes set.brands root.number root.entry meant root.numbered in
@@ -107,12 +86,7 @@ found_of r k same_list entries set meant rooted id n part listed first struct gr
     let named : IsNameOf k node.earlier node.before root.entry node.is.node node.node.display_name = subst (λ p. IsEntryName k node.earlier node.before node.is.node root.entry p node.node.display_name) root.whole node.is.name in
     record {
       number = root.number;
-      entry = root.entry;
       node = node.node;
-      there = root.numbered;
-      same_node = root.node;
-      whole = root.whole;
-      unbound = root.unbound;
       display = named.display;
       numbered = node.there;
       same_id = node.is.id ∙ root.node;
@@ -127,7 +101,6 @@ pub record IsFirstOf (k : Numbers) (n : ℕ) : Type 0 where
   pub id : ℕ
   pub is : enum_position k.enums id 0 ≡ Some n
   pub kind : is_of_kind is_enum (node_named k.nodes id) ≡ true
-  pub few : n < 4294967295
 
 abbrev pub IsFirst : Numbers → Target → Type 0
 IsFirst k (EntryAt n) = Unit {0}
@@ -135,7 +108,7 @@ IsFirst k (EnumAt n) = IsFirstOf k n
 
 target_first : (k : Numbers) (inside : List Bound) (t : TypeTerm) (x : Target) → IsTarget k inside t x → IsFirst k x
 target_first k inside t (EntryAt n) h = tt
-target_first k inside (EnumTerm id) (EnumAt n) h = record { id = id; is = h.0; kind = h.1; few = h.2 }
+target_first k inside (EnumTerm id) (EnumAt n) h = record { id = id; is = h.0; kind = h.1 }
 target_first k inside (StructTerm id brand) (EnumAt n) h = absurd h
 target_first k inside (MemberTerm t) (EnumAt n) h = absurd h
 target_first k inside Float32 (EnumAt n) h = absurd h
@@ -187,8 +160,8 @@ abbrev numbers_by : List SchemaNode → Bool → List Entry → List ℕ → Num
 numbers_by nodes strict entries enums = record { nodes = nodes; strict = strict; entries = entries; enums = enums }
 
 module _ (r : RequestTerm) (strict : Bool) where
-  set_of_made : (s t : Named) (m : Made) → Ends r.nodes strict s nothing_made m t → Stay r.nodes s.entries → AreRooted r t.entries → AreGroupsDistinct t.entries → AllReached r strict t → IsSetOf r strict (schemas_made m)
-  set_of_made s t m ends stay rooted once reached =
+  set_of_made : (s t : Named) (m : Made) → Ends r.nodes strict s nothing_made m t → Stay r.nodes s.entries → AreRooted r t.entries → AllReached r strict t → IsSetOf r strict (schemas_made m)
+  set_of_made s t m ends stay rooted reached =
       let made : AreMade r.nodes strict m t = ends.made (none_made r.nodes strict t) in
       let kept : Stay r.nodes t.entries = ends.kept stay in
       let count : length made.done ≡ length m.nodes = nodes_counted (numbers r.nodes strict t) [] [] made.done m.nodes m.brands made.meant in
@@ -208,7 +181,6 @@ module _ (r : RequestTerm) (strict : Bool) where
         entries = t.entries;
         bound = kept.entries t.entries [] (sym (append-nil t.entries));
         distinct = kept.distinct;
-        distinct_groups = once;
         few = kept.few;
         nodes = meant;
         enums = subst (λ ids. AreEnumsOf (numbers_by r.nodes strict t.entries ids) m.enums) enums made.enumerated;
@@ -225,21 +197,21 @@ module _ (r : RequestTerm) (strict : Bool) where
   set_or other (Err kind) = other
 
   module _ (set : Schemas) (notes : List Note) where
-    made_meant : (s : Named) → Stay r.nodes s.entries → ((t : Named) → Grows s t → AreRooted r t.entries) → (x : Result (Made × Named) ErrorKind) → IfDone (λ (m : Made) t. Ends r.nodes strict s nothing_made m t) x → IfAllOnce r.nodes strict x → IfDone (λ (m : Made) t. AllReached r strict t) x → result_of x ≡ Ok (set, notes) → IsSetOf r strict set
-    made_meant s stay rooted (Err kind) h once k e = absurd (cc)
-    made_meant s stay rooted (Ok p) h once k e =
+    made_meant : (s : Named) → Stay r.nodes s.entries → ((t : Named) → Grows s t → AreRooted r t.entries) → (x : Result (Made × Named) ErrorKind) → IfDone (λ (m : Made) t. Ends r.nodes strict s nothing_made m t) x → IfDone (λ (m : Made) t. AllReached r strict t) x → result_of x ≡ Ok (set, notes) → IsSetOf r strict set
+    made_meant s stay rooted (Err kind) h k e = absurd (cc)
+    made_meant s stay rooted (Ok p) h k e =
         let same : schemas_made p.0 ≡ set = ap (set_or set) e in
-        subst (IsSetOf r strict) same (set_of_made s p.1 p.0 h stay (rooted p.1 h.grown) once k)
+        subst (IsSetOf r strict) same (set_of_made s p.1 p.0 h stay (rooted p.1 h.grown) k)
 
     named_meant : (x : Result (List ℕ × Named) ErrorKind) → IfDone (λ (none : List ℕ) t. Done (Stay r.nodes) nothing_named t (λ z. AreRooted r z.entries)) x
-        → IfDone (λ (none : List ℕ) t. AllReached r strict t) x → IfDone (λ (none : List ℕ) t. IsFit r.nodes t) x → IfOnce 0 0 x → result_of (work_continued (λ none. make_all r.nodes strict (65536 + suc (length r.nodes)) nothing_made) x) ≡ Ok (set, notes) → IsSetOf r strict set
-    named_meant (Err kind) h k fit once e = absurd (cc)
-    named_meant (Ok p) h k fit once e =
+        → IfDone (λ (none : List ℕ) t. AllReached r strict t) x → IfDone (λ (none : List ℕ) t. IsFit r.nodes t) x → result_of (work_continued (λ none. make_all r.nodes strict (65536 + suc (length r.nodes)) nothing_made) x) ≡ Ok (set, notes) → IsSetOf r strict set
+    named_meant (Err kind) h k fit e = absurd (cc)
+    named_meant (Ok p) h k fit e =
         made_meant p.1 (h.kept (stay_none r.nodes)) (λ t g. h.later t g) (make_all r.nodes strict (65536 + suc (length r.nodes)) nothing_made p.1) (all_end r.nodes strict (65536 + suc (length r.nodes)) nothing_made p.1 fit)
-        (all_once r.nodes strict (65536 + suc (length r.nodes)) nothing_made p.1 once) (all_reached r strict (65536 + suc (length r.nodes)) nothing_made p.1 k) e
+        (all_reached r strict (65536 + suc (length r.nodes)) nothing_made p.1 k) e
 
 pub set_meant : SetMeansItsRequest
-set_meant r strict set notes e = named_meant r strict set notes (name_files r.nodes strict r.files nothing_named) (files_named (Stay r.nodes) r (stay_whole r.nodes) strict nothing_named) (files_reached r strict) (files_fit r.nodes strict r.files) (files_once r strict) e
+set_meant r strict set notes e = named_meant r strict set notes (name_files r.nodes strict r.files nothing_named) (files_named (Stay r.nodes) r (stay_whole r.nodes) strict nothing_named) (files_reached r strict) (files_fit r.nodes strict r.files) e
 
 pub record_meant : SetMeansItsRecord
 record_meant r strict set notes e = go (request_said r) refl e

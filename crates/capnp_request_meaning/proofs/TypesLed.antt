@@ -1,6 +1,6 @@
 -- What types, brands and annotations lead to.
 use Rattle.std.proofs.Common.{ℕ, zero, suc, ◌+◌, ◌<◌, ◌≤◌, ◌≡◌, ◌∙◌, ◌==◌, ap, arith, inl, inr, refl, subst, sym, nat_lt, Bool, true, false, List, [], ◌∷◌, ◌++◌, length, slice_get, Option, Some, None, Ok, append_assoc}
-use Rattle.std.proofs.lemmas.Bool.{eq-eqb, ltb-true}
+use Rattle.std.proofs.lemmas.Bool.{eq-eqb}
 use Rattle.std.proofs.lemmas.List.{append-nil, length-append}
 use Rattle.capnp_device.specs.declared.error.ErrorKind.TheVariants.{NodeNotFound, TooManyTypes}
 use Rattle.capnp_schema.specs.Schema.{Annotation}
@@ -13,7 +13,7 @@ use Rattle.capnp_request.specs.Values.{value_stated}
 use Rattle.capnp_request.specs.Work.{Bound, Entry, MarkedType, Named, Work, each, plain, work_of, work_unnoted, ◌>>=◌}
 use Rattle.capnp_request_meaning.specs.Meaning.{AnnotationLeads, AnyBound, ByBrand, ByDeclaration, EntryAt, EnumAt, IsBindingAmong, IsBindingOf, IsBindingSaid, LeadsTo, Numbers, StandsIn, Target}
 use Rattle.capnp_request_meaning.proofs.AnnotationsMeant.{IsDeclaration, declaration}
-use Rattle.capnp_request_meaning.proofs.EntriesKept.{IsNumbered, few_bound, same_bound_itself, whole_entry}
+use Rattle.capnp_request_meaning.proofs.EntriesKept.{IsNumbered, same_bound_itself, whole_entry}
 use Rattle.capnp_request_meaning.proofs.Leads.{AnyEntries, IsLed, IsNew, Led, OneLeads, any_whole, led_all, led_bind, led_bind_with, led_else, led_none, led_of, led_said, led_scopes, led_unnoted, led_weaken, led_where}
 use Rattle.capnp_request_meaning.proofs.ListsFound.{last_at, still_at}
 use Rattle.capnp_request_meaning.proofs.TypesMeant.{AreNamedScopes, brand_meant, numbers, scopes_named}
@@ -49,12 +49,12 @@ IsStructAdded id bound x z = (n : ℕ) × (x ≡ EntryAt n) × IsNumbered id bou
 
 pub struct_led : (id : ℕ) (bound : List Bound) → IsLed (number_struct id bound) (IsStructAdded id bound)
 struct_led id bound s =
-    led_where (is_bound_count (bound_count bound)) TooManyTypes s (IsStructAdded id bound) (number_or_add (entry_number id bound s.entries 0) (whole_entry id bound) s) (λ few. go (few_bound bound few) (entry_number id bound s.entries 0))
+    led_where (is_bound_count (bound_count bound)) TooManyTypes s (IsStructAdded id bound) (number_or_add (entry_number id bound s.entries 0) (whole_entry id bound) s) (λ few. go (entry_number id bound s.entries 0))
   where
-    go : bound_count bound ≤ 1024 → (o : Option ℕ) → IfDone (λ n t. Led s t (IsStructAdded id bound)) (number_or_add o (whole_entry id bound) s)
-    go small (Some n) = led_none s s (IsStructAdded id bound) refl refl
-    go small None = led_weaken (add_entry (whole_entry id bound)) (IsAdded (whole_entry id bound)) (IsStructAdded id bound)
-        (λ x z h. (h.0, h.1, record { entry = whole_entry id bound; numbered = h.2; node = refl; whole = refl; same = same_bound_itself bound; few = small })) (entry_led (whole_entry id bound)) s
+    go : (o : Option ℕ) → IfDone (λ n t. Led s t (IsStructAdded id bound)) (number_or_add o (whole_entry id bound) s)
+    go (Some n) = led_none s s (IsStructAdded id bound) refl refl
+    go None = led_weaken (add_entry (whole_entry id bound)) (IsAdded (whole_entry id bound)) (IsStructAdded id bound)
+        (λ x z h. (h.0, h.1, record { entry = whole_entry id bound; numbered = h.2; node = refl; whole = refl; same = same_bound_itself bound })) (entry_led (whole_entry id bound)) s
 
 -- an id that isn't there stands first where it is put behind
 position_behind : (ids more : List ℕ) (id k : ℕ) → enum_position ids id k ≡ None → enum_position (ids ++ id ∷ more) id k ≡ Some (k + length ids)
@@ -66,11 +66,11 @@ position_behind (x ∷ ids) more id k h = go (x == id) h (position_behind ids mo
     go false e later = let n : (k + 1) + length ids ≡ k + suc (length ids) = omega arith in later e ∙ ap (λ i. Some i) n
 
 abbrev pub IsEnumAdded : List SchemaNode → ℕ → Target → Named → Type 0
-IsEnumAdded nodes id x z = (n : ℕ) × (x ≡ EnumAt n) × (enum_position z.enums id 0 ≡ Some n) × (is_of_kind is_enum (node_named nodes id) ≡ true) × (n < 4294967295)
+IsEnumAdded nodes id x z = (n : ℕ) × (x ≡ EnumAt n) × (enum_position z.enums id 0 ≡ Some n) × (is_of_kind is_enum (node_named nodes id) ≡ true)
 
 -- one enum more
-pub enum_new : (nodes : List SchemaNode) (id : ℕ) (s : Named) → enum_position s.enums id 0 ≡ None → is_of_kind is_enum (node_named nodes id) ≡ true → nat_lt (length s.enums) 4294967295 ≡ true → Led s (record s { enums = s.enums ++ id ∷ [] }) (IsEnumAdded nodes id)
-enum_new nodes id s none found few = record { grown = record { entries = []; enums = id ∷ []; entries_are = sym (append-nil s.entries); enums_are = refl }; new = added }
+pub enum_new : (nodes : List SchemaNode) (id : ℕ) (s : Named) → enum_position s.enums id 0 ≡ None → is_of_kind is_enum (node_named nodes id) ≡ true → Led s (record s { enums = s.enums ++ id ∷ [] }) (IsEnumAdded nodes id)
+enum_new nodes id s none found = record { grown = record { entries = []; enums = id ∷ []; entries_are = sym (append-nil s.entries); enums_are = refl }; new = added }
   where
     there : (z : Named) → Grows (record s { enums = s.enums ++ id ∷ [] }) z → enum_position z.enums id 0 ≡ Some (length s.enums)
     there z g =
@@ -81,7 +81,7 @@ enum_new nodes id s none found few = record { grown = record { entries = []; enu
     added (EnumAt n) is z g =
         let longer : length (s.enums ++ id ∷ []) ≡ length s.enums + 1 = length-append s.enums (id ∷ []) in
         let last : n ≡ length s.enums = last_new (length s.enums) (length (s.enums ++ id ∷ [])) n longer is in
-        (n, refl, there z g ∙ ap (λ i. Some i) (sym last), found, (let less : length s.enums < 4294967295 = ltb-true (length s.enums) 4294967295 few in omega (arith, last, less)))
+        (n, refl, there z g ∙ ap (λ i. Some i) (sym last), found)
     added (EntryAt n) is z g = absurd (omega (arith, is.0, is.1))
 
 pub enum_led : (nodes : List SchemaNode) (id : ℕ) → IsLed (number_enum nodes id) (IsEnumAdded nodes id)
@@ -90,7 +90,7 @@ enum_led nodes id s = go (enum_position s.enums id 0) refl
     go : (o : Option ℕ) → enum_position s.enums id 0 ≡ o → IfDone (λ n t. Led s t (IsEnumAdded nodes id)) (enum_or_add nodes o id s)
     go (Some n) is = led_none s s (IsEnumAdded nodes id) refl refl
     go None is = led_where (is_of_kind is_enum (node_named nodes id)) NodeNotFound s (IsEnumAdded nodes id) (add_enum id s) (λ found.
-        led_where (nat_lt (length s.enums) 4294967295) TooManyTypes s (IsEnumAdded nodes id) (Ok (length s.enums, record s { enums = s.enums ++ id ∷ [] })) (λ few. enum_new nodes id s is found few))
+        led_where (nat_lt (length s.enums) 4294967295) TooManyTypes s (IsEnumAdded nodes id) (Ok (length s.enums, record s { enums = s.enums ++ id ∷ [] })) (λ few. enum_new nodes id s is found))
 
 -- ---- types ----
 
@@ -129,7 +129,7 @@ module _ (nodes : List SchemaNode) (strict : Bool) (inside : List Bound) where
   itself id brand bound (EntryAt n) z h scopes =
       let same : n ≡ h.0 = cc in
       let at : IsNumbered id bound n z.entries = subst (λ i. IsNumbered id bound i z.entries) (sym same) h.2 in
-      record { inner = StructTerm id brand; stands = inl refl; target = (n, refl, bound, record { entry = at.entry; numbered = at.numbered; node = at.node; whole = at.whole; same = at.same }, scopes.1, at.few) }
+      record { inner = StructTerm id brand; stands = inl refl; target = (n, refl, bound, record { entry = at.entry; numbered = at.numbered; node = at.node; whole = at.whole; same = at.same }, scopes.1) }
 
   struct_type_led : (id : ℕ) (brand : BrandTerm) → IsBrandLed brand → IsLed (type_of nodes strict inside (StructTerm id brand)) (Leads (StandsIn nodes (StructTerm id brand)))
   struct_type_led id brand h s = led_where (is_of_kind is_struct_kind (node_named nodes id)) NodeNotFound s (Leads (StandsIn nodes (StructTerm id brand))) ((named_scopes nodes strict inside id brand >>= numbered id) s) (λ found.
@@ -144,7 +144,7 @@ module _ (nodes : List SchemaNode) (strict : Bool) (inside : List Bound) where
   enum_itself id (EntryAt n) z h = absurd (cc)
   enum_itself id (EnumAt n) z h =
       let same : n ≡ h.0 = cc in
-      record { inner = EnumTerm id; stands = refl; target = (h.2 ∙ ap (λ i. Some i) (sym same), h.3, omega (arith, same, h.4)) }
+      record { inner = EnumTerm id; stands = refl; target = (h.2 ∙ ap (λ i. Some i) (sym same), h.3) }
 
   enum_type_led : (id : ℕ) → IsLed (type_of nodes strict inside (EnumTerm id)) (Leads (StandsIn nodes (EnumTerm id)))
   enum_type_led id = led_bind (number_enum nodes id) (λ number. work_of (plain (EnumType number))) (Leads (StandsIn nodes (EnumTerm id)))

@@ -1,6 +1,6 @@
 -- The types that terms are converted to, and what is named on the way.
 use Rattle.std.proofs.Common.{ℕ, zero, suc, ◌≡◌, ◌∙◌, ◌==◌, ap, refl, sym, nat_lt, Bool, true, false, List, [], ◌∷◌, map, slice_get, Some, Ok}
-use Rattle.std.proofs.lemmas.Bool.{ltb-true, true≢false}
+use Rattle.std.proofs.lemmas.Bool.{true≢false}
 use Rattle.capnp_device.specs.declared.error.ErrorKind.TheVariants.{NodeNotFound, TooManyTypes}
 use Rattle.capnp_schema.specs.Types.{AnyPointerType, EnumType, StructType}
 use Rattle.capnp_request.specs.Scopes.{bound_types, node_named, scopes_of}
@@ -72,7 +72,7 @@ module _ (K : List Entry → Type 0) (nodes : List SchemaNode) (whole : KeepsWho
   bound_numbered id brand bound scopes =
       bind K (number_struct id bound) (λ number. work_of (plain (StructType number number))) (λ n z. IsNumbered id bound n z.entries) (λ u z. EachBound (IsBoundBy (numbers nodes strict z) inside brand) bound → IsTypeOf (numbers nodes strict z) inside (StructTerm id brand) u) (struct_numbered K nodes whole id bound scopes)
       (λ n. of_work K (plain (StructType n n)) (λ u z. IsNumbered id bound n z.entries → EachBound (IsBoundBy (numbers nodes strict z) inside brand) bound → IsTypeOf (numbers nodes strict z) inside (StructTerm id brand) u)
-      (λ z h p. (n, refl, bound, record { entry = h.entry; numbered = h.numbered; node = h.node; whole = h.whole; same = h.same }, p, h.few)))
+      (λ z h p. (n, refl, bound, record { entry = h.entry; numbered = h.numbered; node = h.node; whole = h.whole; same = h.same }, p)))
 
   struct_meant : (id : ℕ) (brand : BrandTerm) → IsBrandWork brand → IsWork K (type_of nodes strict inside (StructTerm id brand)) (λ u z. IsTypeOf (numbers nodes strict z) inside (StructTerm id brand) u)
   struct_meant id brand h s =
@@ -87,7 +87,7 @@ module _ (K : List Entry → Type 0) (nodes : List SchemaNode) (whole : KeepsWho
   list_meant t h =
       bind K (type_of nodes strict inside t) listed_type (λ u z. IsTypeOf (numbers nodes strict z) inside t u) (λ v z. IsTypeOf (numbers nodes strict z) inside (ListTerm t) v) h
       (λ u s. done_where K (nat_lt (lists_in u.type) 18446744073709551615) TooManyTypes (λ v t2. Done K s t2 (λ z. IsTypeOf (numbers nodes strict z) inside t u → IsTypeOf (numbers nodes strict z) inside (ListTerm t) v)) (Ok (list_of u, s))
-      (λ few. stays K s (λ z. IsTypeOf (numbers nodes strict z) inside t u → IsTypeOf (numbers nodes strict z) inside (ListTerm t) (list_of u)) (λ z g p. (u, refl, p, ltb-true (lists_in u.type) 18446744073709551615 few))))
+      (λ few. stays K s (λ z. IsTypeOf (numbers nodes strict z) inside t u → IsTypeOf (numbers nodes strict z) inside (ListTerm t) (list_of u)) (λ z g p. (u, refl, p))))
 
   more_bindings : (t : TypeTerm) (rest : BindingTerms) (count : ℕ) → IsWork K (type_of nodes strict inside t) (λ u z. IsTypeOf (numbers nodes strict z) inside t u) → IsWork K (binding_types nodes strict inside rest count) (λ ts z. AreTypesOf (numbers nodes strict z) inside rest count ts)
       → IsWork K (binding_types nodes strict inside (MoreBindings t rest) (suc count)) (λ ts z. AreTypesOf (numbers nodes strict z) inside (MoreBindings t rest) (suc count) ts)

@@ -235,26 +235,20 @@ module _ (structs enums structs2 enums2 : List (List ℕ)) (known known2 : ℕ �
   named_same p q t (EnumType b) named e k l = absurd (no_second (name_of enums2 b) p t refl (own.enum_apart2 b (l.enum refl)) e)
   named_same p q t u named e k l = absurd (true≢false (sym named))
 
-  -- a type that is no list, without a name
-  record IsViewed (p : Bool) (t : SchemaType) : Type 0 where
-    flat_is : IsFlat t
-    no_list_is : is_list t ≡ false
-    view : MarkView p t
-
   -- types of one kind without names, which are not both lists
-  views_same : (p q : Bool) (t u : SchemaType) → IsViewed p t → IsViewed q u → marked_kind p t ≡ marked_kind q u → SameParts (marked p t) (marked q u)
-  views_same p q t u v w e = go v.view w.view
+  views_same : (p q : Bool) (t u : SchemaType) → IsFlat t → IsFlat u → is_list t ≡ false → is_list u ≡ false → marked_kind p t ≡ marked_kind q u → MarkView p t → MarkView q u → SameParts (marked p t) (marked q u)
+  views_same p q t u f g a b e (Unmarked m k) (Unmarked n l) = parts f g (sym k ∙ (e ∙ l)) (m ∙ sym n)
     where
-      parts : kind_number t ≡ kind_number u → p ≡ q → SameParts (marked p t) (marked q u)
-      parts kinds marks = record { kinds = ap kind_number v.flat_is.inner ∙ (kinds ∙ sym (ap kind_number w.flat_is.inner)); entries = ap named_entry v.flat_is.inner ∙ (v.flat_is.entry ∙ (sym w.flat_is.entry ∙ sym (ap named_entry w.flat_is.inner))); lists = v.flat_is.lists ∙ sym w.flat_is.lists; marks = marks }
-
-      go : MarkView p t → MarkView q u → SameParts (marked p t) (marked q u)
-      go (Unmarked m k) (Unmarked n l) = parts (sym k ∙ (e ∙ l)) (m ∙ sym n)
-      go (Marked m x k) (Marked n y l) = parts (omega (arith, e, k, l)) (m ∙ sym n)
-      go (Unmarked m k) (Marked n (inl y) l) = let small : kind_number t < 15 = small_kind t v.no_list_is in absurd (omega (arith, e, k, l, y, small))
-      go (Unmarked m k) (Marked n (inr y) l) = let small : kind_number t < 15 = small_kind t v.no_list_is in absurd (omega (arith, e, k, l, y, small))
-      go (Marked m (inl x) k) (Unmarked n l) = let small : kind_number u < 15 = small_kind u w.no_list_is in absurd (omega (arith, e, k, l, x, small))
-      go (Marked m (inr x) k) (Unmarked n l) = let small : kind_number u < 15 = small_kind u w.no_list_is in absurd (omega (arith, e, k, l, x, small))
+      parts : IsFlat t → IsFlat u → kind_number t ≡ kind_number u → p ≡ q → SameParts (marked p t) (marked q u)
+      parts f g kinds marks = record { kinds = ap kind_number f.inner ∙ (kinds ∙ sym (ap kind_number g.inner)); entries = ap named_entry f.inner ∙ (f.entry ∙ (sym g.entry ∙ sym (ap named_entry g.inner))); lists = f.lists ∙ sym g.lists; marks = marks }
+  views_same p q t u f g a b e (Marked m x k) (Marked n y l) = parts f g (omega (arith, e, k, l)) (m ∙ sym n)
+    where
+      parts : IsFlat t → IsFlat u → kind_number t ≡ kind_number u → p ≡ q → SameParts (marked p t) (marked q u)
+      parts f g kinds marks = record { kinds = ap kind_number f.inner ∙ (kinds ∙ sym (ap kind_number g.inner)); entries = ap named_entry f.inner ∙ (f.entry ∙ (sym g.entry ∙ sym (ap named_entry g.inner))); lists = f.lists ∙ sym g.lists; marks = marks }
+  views_same p q t u f g a b e (Unmarked m k) (Marked n (inl y) l) = let small : kind_number t < 15 = small_kind t a in absurd (omega (arith, e, k, l, y, small))
+  views_same p q t u f g a b e (Unmarked m k) (Marked n (inr y) l) = let small : kind_number t < 15 = small_kind t a in absurd (omega (arith, e, k, l, y, small))
+  views_same p q t u f g a b e (Marked m (inl x) k) (Unmarked n l) = let small : kind_number u < 15 = small_kind u b in absurd (omega (arith, e, k, l, x, small))
+  views_same p q t u f g a b e (Marked m (inr x) k) (Unmarked n l) = let small : kind_number u < 15 = small_kind u b in absurd (omega (arith, e, k, l, x, small))
 
   flat_mark : (p : Bool) (t : SchemaType) → IsFlat t → (p ≡ true → IsFloatKind (kind_in t)) → p ≡ true → IsFloatKind (kind_number t)
   flat_mark p t f h e = subst (λ x. IsFloatKind (kind_number x)) f.inner (h e)
@@ -264,7 +258,7 @@ module _ (structs enums structs2 enums2 : List (List ℕ)) (known known2 : ℕ �
   unnamed_same p q (ListType t) u f g both e k l = absurd (no_list p q t u refl (flat_mark q u (flat u g refl) l.mark) e)
   unnamed_same p q t (ListType u) f g both e k l = absurd (no_list q p u t refl (flat_mark p t (flat t f refl) k.mark) (sym e))
   unnamed_same p q t u f g both e k l =
-      views_same p q t u (record { flat_is = flat t f refl; no_list_is = refl; view = mark_view p t refl (flat_mark p t (flat t f refl) k.mark) }) (record { flat_is = flat u g refl; no_list_is = refl; view = mark_view q u refl (flat_mark q u (flat u g refl) l.mark) }) e
+      views_same p q t u (flat t f refl) (flat u g refl) refl refl e (mark_view p t refl (flat_mark p t (flat t f refl) k.mark)) (mark_view q u refl (flat_mark q u (flat u g refl) l.mark))
 
   abbrev Either : (p q : Bool) → SchemaType → SchemaType → Type 0
   Either p q t u = (((is_named_type t || is_named_type u) ≡ true) × (set_type_name structs enums p t ≡ set_type_name structs2 enums2 q u)) ⊎ (((is_named_type t || is_named_type u) ≡ false) × (marked_kind p t ≡ marked_kind q u))
@@ -319,23 +313,14 @@ module _ (structs enums structs2 enums2 : List (List ℕ)) (known known2 : ℕ �
   none_first (t ∷ []) (suc count) h k few trimmed = let same : SameParts t (plain AnyPointerType) = parts_same t.is_float false t.type AnyPointerType h.0 k.0 (untyped_known known2 (length enums2)) in absurd (trimmed (same.kinds, same.lists))
   none_first (t ∷ x ∷ ts) (suc count) h k few trimmed = let none : x ∷ ts ≡ [] = none_first (x ∷ ts) count h.1 k.1 (omega (arith, few)) trimmed in absurd (cc)
 
-  -- types that are known, as many at most, of which the last is no untyped pointer
-  record AreFit (p : ℕ → Type 0) (enum_count : ℕ) (ts : List MarkedType) (count : ℕ) : Type 0 where
-    each : EachKnown p enum_count ts
-    few : length ts ≤ count
-    trimmed : IsTrimmed ts
-
-  others_fit : (p : ℕ → Type 0) (enum_count : ℕ) (t : MarkedType) (ts : List MarkedType) (count : ℕ) → AreFit p enum_count (t ∷ ts) (suc count) → AreFit p enum_count ts count
-  others_fit p enum_count t ts count h = record { each = h.each.1; few = omega (arith, h.few); trimmed = other_trimmed t ts h.trimmed }
-
-  types_own : (ts us : List MarkedType) (count : ℕ) → AreTypesAlike structs enums structs2 enums2 ts us count → AreFit known (length enums) ts count → AreFit known2 (length enums2) us count → same_types ts us ≡ true
-  types_own [] [] count h k l = refl
-  types_own [] (u ∷ us) count h k l = let none : u ∷ us ≡ [] = none_second (u ∷ us) count h l.each l.few l.trimmed in absurd (cc)
-  types_own (t ∷ ts) [] count h k l = let none : t ∷ ts ≡ [] = none_first (t ∷ ts) count h k.each k.few k.trimmed in absurd (cc)
-  types_own (t ∷ ts) (u ∷ us) zero h k l = absurd (omega (arith, k.few))
-  types_own (t ∷ ts) (u ∷ us) (suc count) h k l =
-      let first : SameParts t u = parts_same t.is_float u.is_float t.type u.type h.0 k.each.0 l.each.0 in
-      and_from (same_marked t u) (same_types ts us) (marked_from t u first) (types_own ts us count h.1 (others_fit known (length enums) t ts count k) (others_fit known2 (length enums2) u us count l))
+  types_own : (ts us : List MarkedType) (count : ℕ) → AreTypesAlike structs enums structs2 enums2 ts us count → Each1 ts → Each2 us → length ts ≤ count → length us ≤ count → IsTrimmed ts → IsTrimmed us → same_types ts us ≡ true
+  types_own [] [] count h k l few few2 trimmed trimmed2 = refl
+  types_own [] (u ∷ us) count h k l few few2 trimmed trimmed2 = let none : u ∷ us ≡ [] = none_second (u ∷ us) count h l few2 trimmed2 in absurd (cc)
+  types_own (t ∷ ts) [] count h k l few few2 trimmed trimmed2 = let none : t ∷ ts ≡ [] = none_first (t ∷ ts) count h k few trimmed in absurd (cc)
+  types_own (t ∷ ts) (u ∷ us) zero h k l few few2 trimmed trimmed2 = absurd (omega (arith, few))
+  types_own (t ∷ ts) (u ∷ us) (suc count) h k l few few2 trimmed trimmed2 =
+      let first : SameParts t u = parts_same t.is_float u.is_float t.type u.type h.0 k.0 l.0 in
+      and_from (same_marked t u) (same_types ts us) (marked_from t u first) (types_own ts us count h.1 k.1 l.1 (omega (arith, few)) (omega (arith, few2)) (other_trimmed t ts trimmed) (other_trimmed u us trimmed2))
 
   -- ---- scopes ----
 
@@ -347,7 +332,7 @@ module _ (structs enums structs2 enums2 : List (List ℕ)) (known known2 : ℕ �
       let distance : b.distance ≡ c.distance = ap (of_first (λ (x : Bound). x.distance)) shape in
       let parameters : b.parameters ≡ c.parameters = ap (of_first (λ (x : Bound). x.parameters)) shape in
       let few : length c.types ≤ c.parameters = l.0.few in
-      let types : same_types b.types c.types ≡ true = types_own b.types c.types b.parameters h.1 (record { each = k.0.each; few = k.0.few; trimmed = k.0.trimmed }) (record { each = l.0.each; few = omega (arith, parameters, few); trimmed = l.0.trimmed }) in
+      let types : same_types b.types c.types ≡ true = types_own b.types c.types b.parameters h.1 k.0.each l.0.each k.0.few (omega (arith, parameters, few)) k.0.trimmed l.0.trimmed in
       and_from (same_scope b c) (same_bound bs cs)
       (and_from (b.scope == c.scope) ((b.distance == c.distance) && ((b.parameters == c.parameters) && same_types b.types c.types)) (eq-eqb b.scope c.scope h.0)
       (and_from (b.distance == c.distance) ((b.parameters == c.parameters) && same_types b.types c.types) (eq-eqb b.distance c.distance distance)

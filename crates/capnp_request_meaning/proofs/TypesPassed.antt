@@ -5,22 +5,23 @@ use Rattle.std.proofs.lemmas.List.{append-nil, length-append}
 use Rattle.std.proofs.lemmas.Option.{slice_get_within}
 use Rattle.capnp_device.specs.declared.error.ErrorKind.TheVariants.{NodeNotFound, TooManyTypes}
 use Rattle.capnp_schema.specs.Types.{EnumType, StructType}
+use Rattle.capnp_request.specs.Order.{is_node_there}
 use Rattle.capnp_request.specs.Scopes.{node_named, scopes_of}
 use Rattle.capnp_request.specs.Terms.{Binds, BindingTerms, BrandTerm, EnumTerm, Float32, Float64, Inherits, Interface, ListTerm, MemberTerm, MoreBindings, MoreScopes, NoBindings, NoScopes, Parameter, RequestTerm, SchemaNode, ScopeTerm, StructTerm, TypeTerm, UnreadBrand, UnreadScope, UnreadType}
 use Rattle.capnp_request.specs.Types.{add_enum, bind_scope, binding_types, brand_types, entry_number, enum_or_add, enum_position, float32, float64, interface, is_enum, is_of_kind, is_struct_kind, list_of, listed_type, lists_in, named_scopes, number_enum, number_or_add, number_struct, scope_types, type_of, without_untyped, bound_count, is_bound_count}
 use Rattle.capnp_request.specs.Work.{Bound, Entry, MarkedType, Named, Work, each, plain, work_of, ◌>>=◌}
-use Rattle.capnp_request_meaning.specs.Meaning.{AnyBound, AreDistinct, AreGroupsDistinct, ByAnnotation, ByBrand, ByDeclaration, ByField, EntryAt, EnumAt, IsBindingAmong, IsBindingOf, IsBindingSaid, IsBoundBy, IsReached, IsTarget, IsTypeOf, Numbers, StandsIn, Target, without_types}
-use Rattle.capnp_request_meaning.specs.Passed.{AreLed, AtField, DeepLists, InBrand, InDeclaration, IsPassed, ManyEntries, ManyEnums, StandsAt, bounds, ManyBound}
+use Rattle.capnp_request_meaning.specs.Meaning.{AnyBound, AreDistinct, ByAnnotation, ByBrand, ByDeclaration, ByField, EntryAt, EnumAt, IsBindingAmong, IsBindingOf, IsBindingSaid, IsBoundBy, IsReached, IsTarget, IsTypeOf, Numbers, StandsIn, Target, without_types}
+use Rattle.capnp_request_meaning.specs.Passed.{AreLed, AtField, DeepLists, InBrand, InDeclaration, IsPassed, ManyEntries, ManyNodes, StandsAt, bounds, ManyBound}
 use Rattle.capnp_request_meaning.specs.Sound.{AreTypesSound, AnySaid, IsBrandSound, IsScopeSound, IsTypeSound}
-use Rattle.capnp_request_meaning.proofs.EntriesKept.{KeepsWhole, few_bound, same_bound_itself, whole_entry}
+use Rattle.capnp_request_meaning.proofs.EntriesKept.{KeepsWhole, same_bound_itself, whole_entry}
+use Rattle.capnp_request_meaning.proofs.EnumsCounted.{HaveNodes, ids_fit}
 use Rattle.capnp_request_meaning.proofs.FieldsLed.{Reached}
-use Rattle.capnp_request_meaning.proofs.GroupsOnce.{groups_whole}
 use Rattle.capnp_request_meaning.proofs.Leads.{IsLed, Led, led_bind, led_of}
 use Rattle.capnp_request_meaning.proofs.ListsFound.{same_some}
 use Rattle.capnp_request_meaning.proofs.OrderMeant.{Stay, StayEntries, whole_stays}
 use Rattle.capnp_request_meaning.proofs.ReachedAll.{AllReached, reached_more}
-use Rattle.capnp_request_meaning.proofs.SetsMeant.{own_place, reached_first}
-use Rattle.capnp_request_meaning.proofs.TypesLed.{IsAdded, Leads, brand_led, entry_new, scopes_led, type_led, itself}
+use Rattle.capnp_request_meaning.proofs.SetsMeant.{own_kind, own_place, reached_first}
+use Rattle.capnp_request_meaning.proofs.TypesLed.{IsAdded, IsEnumAdded, Leads, brand_led, enum_new, entry_new, scopes_led, type_led, itself, enum_itself}
 use Rattle.capnp_request_meaning.proofs.TypesMeant.{AreNamedScopes, binding, brand_meant, numbers, scopes_named, type_meant}
 use Rattle.capnp_request_meaning.proofs.TypesSound.{AreNodesSound, scopes_said}
 use Rattle.capnp_request_meaning.proofs.WorkPassed.{IfPassed, done_at, passed_bind, passed_else, passed_from, passed_so, passed_where}
@@ -49,11 +50,10 @@ pub record After (r : RequestTerm) (strict : Bool) (K : List Entry → Type 0) {
   pub fine : Fine r strict K p.1
   pub later : (z : Named) → Grows p.1 z → P p.0 z
 
-pub led_at : (r : RequestTerm) (strict : Bool) (s : Named) → StayEntries r.nodes s.entries → AreDistinct s.entries → AreGroupsDistinct s.entries → AllReached r strict s → AreLed r (numbers r.nodes strict s)
-led_at r strict s stays distinct groups reached = record {
+pub led_at : (r : RequestTerm) (strict : Bool) (s : Named) → StayEntries r.nodes s.entries → AreDistinct s.entries → AllReached r strict s → AreLed r (numbers r.nodes strict s)
+led_at r strict s stays distinct reached = record {
   bound = stays s.entries [] (sym (append-nil s.entries));
   distinct = distinct;
-  distinct_groups = groups;
   distinct_enums = once;
   reached = λ n e there. let inside : n < length s.entries = slice_get_within s.entries n e there in reached (EntryAt n) (omega arith, inside) s (grows_none s);
   reached_enums = each_enum;
@@ -68,22 +68,15 @@ led_at r strict s stays distinct groups reached = record {
     once : (i j id : ℕ) → slice_get s.enums i ≡ Some id → slice_get s.enums j ≡ Some id → i ≡ j
     once i j id a b = same_some (sym (position i id a) ∙ position j id b)
 
--- What is kept of entries stays where a struct node is added, and says what `Stay` does, and that groups are once each.
-pub record KeepsEntries (nodes : List SchemaNode) (K : List Entry → Type 0) : Type 0 where
-  pub whole : KeepsWhole K nodes
-  pub stay : (es : List Entry) → K es → Stay nodes es
-  pub once : (es : List Entry) → K es → AreGroupsDistinct es
+kind_there : (o : Option SchemaNode) → is_of_kind is_enum o ≡ true → is_node_there o ≡ true
+kind_there (Some n) h = refl
+kind_there None h = h
 
-module _ (r : RequestTerm) (strict : Bool) (sound : AreNodesSound (bounds strict) r.nodes) (K : List Entry → Type 0) (keeps : KeepsEntries r.nodes K) where
-  abbrev whole : KeepsWhole K r.nodes
-  whole = keeps.whole
+-- each enum that is led to has a node
+enums_there : (r : RequestTerm) (strict : Bool) (s : Named) → AreLed r (numbers r.nodes strict s) → HaveNodes r.nodes s.enums
+enums_there r strict s led i id there = kind_there (node_named r.nodes id) (own_kind (numbers r.nodes strict s) i id there (reached_first r (numbers r.nodes strict s) (EnumAt i) (led.reached_enums i id there)))
 
-  stay : (es : List Entry) → K es → Stay r.nodes es
-  stay es k = keeps.stay es k
-
-  once : (es : List Entry) → K es → AreGroupsDistinct es
-  once es k = keeps.once es k
-
+module _ (r : RequestTerm) (strict : Bool) (sound : AreNodesSound (bounds strict) r.nodes) (K : List Entry → Type 0) (whole : KeepsWhole K r.nodes) (stay : (es : List Entry) → K es → Stay r.nodes es) where
   abbrev pub X : Type 0
   X = IsPassed r strict
 
@@ -98,40 +91,45 @@ module _ (r : RequestTerm) (strict : Bool) (sound : AreNodesSound (bounds strict
 
   -- ---- entries and enums past the bounds ----
 
-  pub entries_full : (s : Named) (e : Entry) → nat_lt (length s.entries) 65536 ≡ false → StayEntries r.nodes (s.entries ++ e ∷ []) × AreDistinct (s.entries ++ e ∷ []) → AreGroupsDistinct (s.entries ++ e ∷ []) → AllReached r strict s → ((x : Target) (z : Named) → Grows s z → IsAdded e x z → Reached r strict x z) → X
-  entries_full s e full stays groups reached new =
+  pub entries_full : (s : Named) (e : Entry) → nat_lt (length s.entries) 65536 ≡ false → StayEntries r.nodes (s.entries ++ e ∷ []) × AreDistinct (s.entries ++ e ∷ []) → AllReached r strict s → ((x : Target) (z : Named) → Grows s z → IsAdded e x z → Reached r strict x z) → X
+  entries_full s e full stays reached new =
       let more : Named = record s { entries = s.entries ++ e ∷ [] } in
       let all : AllReached r strict more = reached_more r strict s more (IsAdded e) (entry_new e s) reached new in
       let many : 65536 ≤ length s.entries = ltb-false (length s.entries) 65536 full in
       let longer : length (s.entries ++ e ∷ []) ≡ length s.entries + 1 = length-append s.entries (e ∷ []) in
-      ManyEntries more.entries more.enums (led_at r strict more stays.0 stays.1 groups all) (omega (arith, many, longer))
+      ManyEntries more.entries more.enums (led_at r strict more stays.0 stays.1 all) (omega (arith, many, longer))
 
   -- more types are bound than may be
   abbrev pub IsMany : List Bound → Type 0
   IsMany bound = is_bound_count (bound_count bound) ≡ false
 
-  pub number_passed : (id : ℕ) (bound : List Bound) (s : Named) → scopes_of r.nodes id ≡ Ok (map without_types bound) → F s → (IsMany bound → X) → ((x : Target) (z : Named) → Grows s z → bound_count bound ≤ 1024 → IsAdded (whole_entry id bound) x z → Reached r strict x z) → IfPassed X (number_struct id bound s)
+  pub number_passed : (id : ℕ) (bound : List Bound) (s : Named) → scopes_of r.nodes id ≡ Ok (map without_types bound) → F s → (IsMany bound → X) → ((x : Target) (z : Named) → Grows s z → IsAdded (whole_entry id bound) x z → Reached r strict x z) → IfPassed X (number_struct id bound s)
   number_passed id bound s scopes fine much new =
-      passed_where X (is_bound_count (bound_count bound)) TooManyTypes (number_or_add (entry_number id bound s.entries 0) (whole_entry id bound) s) (λ many same. much many) (λ few. go (few_bound bound few) (entry_number id bound s.entries 0) refl)
+      passed_where X (is_bound_count (bound_count bound)) TooManyTypes (number_or_add (entry_number id bound s.entries 0) (whole_entry id bound) s) (λ many same. much many) (λ few. go (entry_number id bound s.entries 0) refl)
     where
-      go : bound_count bound ≤ 1024 → (o : Option ℕ) → entry_number id bound s.entries 0 ≡ o → IfPassed X (number_or_add o (whole_entry id bound) s)
-      go small (Some n) is = tt
-      go small None is = passed_where X (nat_lt (length s.entries) 65536) TooManyTypes (Ok (length s.entries, record s { entries = s.entries ++ whole_entry id bound ∷ [] }))
-          (λ full same. entries_full s (whole_entry id bound) full (whole_stays r.nodes s.entries id bound is scopes (stay s.entries fine.kept)) (groups_whole s.entries id bound (once s.entries fine.kept)) fine.reached (λ x z g added. new x z g small added)) (λ few. tt)
+      go : (o : Option ℕ) → entry_number id bound s.entries 0 ≡ o → IfPassed X (number_or_add o (whole_entry id bound) s)
+      go (Some n) is = tt
+      go None is = passed_where X (nat_lt (length s.entries) 65536) TooManyTypes (Ok (length s.entries, record s { entries = s.entries ++ whole_entry id bound ∷ [] }))
+          (λ full same. entries_full s (whole_entry id bound) full (whole_stays r.nodes s.entries id bound is scopes (stay s.entries fine.kept)) fine.reached new) (λ few. tt)
 
-  enums_full : (inside : List Bound) (id : ℕ) (s : Named) → nat_lt (length s.enums) 4294967295 ≡ false → enum_position s.enums id 0 ≡ None → is_of_kind is_enum (node_named r.nodes id) ≡ true → F s → StandsAt r (numbers r.nodes strict s) inside (EnumTerm id) → X
-  enums_full inside id s full none found fine stands =
+  enums_full : (s : Named) (id : ℕ) → nat_lt (length s.enums) 4294967295 ≡ false → enum_position s.enums id 0 ≡ None → is_of_kind is_enum (node_named r.nodes id) ≡ true → F s → ((x : Target) (z : Named) → Grows s z → IsEnumAdded r.nodes id x z → Reached r strict x z) → X
+  enums_full s id full none found fine new =
+      let more : Named = record s { enums = s.enums ++ id ∷ [] } in
+      let all : AllReached r strict more = reached_more r strict s more (IsEnumAdded r.nodes id) (enum_new r.nodes id s none found) fine.reached new in
+      let many : 4294967295 ≤ length s.enums = ltb-false (length s.enums) 4294967295 full in
+      let longer : length (s.enums ++ id ∷ []) ≡ length s.enums + 1 = length-append s.enums (id ∷ []) in
       let kept : Stay r.nodes s.entries = stay s.entries fine.kept in
-      ManyEnums s.entries s.enums (led_at r strict s kept.entries kept.distinct (once s.entries fine.kept) fine.reached)
-      (record { inside = inside; id = id; stands = stands; is_enum_node = found; more = none; many = ltb-false (length s.enums) 4294967295 full })
+      let led : AreLed r (numbers r.nodes strict more) = led_at r strict more kept.entries kept.distinct all in
+      let fit : length (s.enums ++ id ∷ []) ≤ length r.nodes = ids_fit r.nodes more.enums (λ i j x a b. led.distinct_enums i j x a b) (enums_there r strict more led) in
+      ManyNodes (omega (arith, many, longer, fit))
 
-  enum_passed : (inside : List Bound) (id : ℕ) (s : Named) → F s → StandsAt r (numbers r.nodes strict s) inside (EnumTerm id) → IfPassed X (number_enum r.nodes id s)
-  enum_passed inside id s fine stands = go (enum_position s.enums id 0) refl
+  enum_passed : (id : ℕ) (s : Named) → F s → ((x : Target) (z : Named) → Grows s z → IsEnumAdded r.nodes id x z → Reached r strict x z) → IfPassed X (number_enum r.nodes id s)
+  enum_passed id s fine new = go (enum_position s.enums id 0) refl
     where
       go : (o : Option ℕ) → enum_position s.enums id 0 ≡ o → IfPassed X (enum_or_add r.nodes o id s)
       go (Some n) is = tt
       go None is = passed_where X (is_of_kind is_enum (node_named r.nodes id)) NodeNotFound (add_enum id s) (λ missing same. absurd (cc)) (λ found.
-          passed_where X (nat_lt (length s.enums) 4294967295) TooManyTypes (Ok (length s.enums, record s { enums = s.enums ++ id ∷ [] })) (λ full same. enums_full inside id s full is found fine stands) (λ few. tt))
+          passed_where X (nat_lt (length s.enums) 4294967295) TooManyTypes (Ok (length s.enums, record s { enums = s.enums ++ id ∷ [] })) (λ full same. enums_full s id full is found fine new) (λ few. tt))
 
   float32_passed : (q : Bool) (s : Named) → IfPassed X (float32 q s)
   float32_passed true s = λ same. absurd (cc)
@@ -197,7 +195,7 @@ module _ (r : RequestTerm) (strict : Bool) (sound : AreNodesSound (bounds strict
     bound_much : (id : ℕ) (brand : BrandTerm) (bound : List Bound) (s t : Named) → AreHere s (StandsIn r.nodes (StructTerm id brand)) → Grows s t → F t → AreNamedScopes r.nodes strict inside id brand bound t → IsMany bound → X
     bound_much id brand bound s t here grown fine scopes many =
         let kept : Stay r.nodes t.entries = stay t.entries fine.kept in
-        ManyBound t.entries t.enums (led_at r strict t kept.entries kept.distinct (once t.entries fine.kept) fine.reached)
+        ManyBound t.entries t.enums (led_at r strict t kept.entries kept.distinct fine.reached)
         (record { inside = inside; id = id; brand = brand; bound = bound; stands = here (StructTerm id brand) (inl refl) t grown; scopes = scopes.0; binds = scopes.1; many = let more : 1025 ≤ bound_count bound = ltb-false (bound_count bound) 1025 many in omega (arith, more) })
 
     struct_passed : (id : ℕ) (brand : BrandTerm) → IsBrandPassed brand → (s : Named) → AreHere s (StandsIn r.nodes (StructTerm id brand)) → F s → IfPassed X (type_of r.nodes strict inside (StructTerm id brand) s)
@@ -208,8 +206,8 @@ module _ (r : RequestTerm) (strict : Bool) (sound : AreNodesSound (bounds strict
         let after : After r strict K (AreNamedScopes r.nodes strict inside id brand) s p = scopes_after id brand s bindings fine p e in
         let scopes : AreNamedScopes r.nodes strict inside id brand p.0 p.1 = after.later p.1 (grows_none p.1) in
         passed_bind X (number_struct id p.0) (λ number. work_of (plain (StructType number number))) p.1
-        (number_passed id p.0 p.1 scopes.0 after.fine (λ many. bound_much id brand p.0 s p.1 here after.grown after.fine scopes many) (λ x z g small added. here_leads s (StandsIn r.nodes (StructTerm id brand)) here x z (grows_on s p.1 z after.grown g)
-        (itself r.nodes strict inside id brand p.0 x z (added.0, added.1, record { entry = whole_entry id p.0; numbered = added.2; node = refl; whole = refl; same = same_bound_itself p.0; few = small }) (after.later z g))))
+        (number_passed id p.0 p.1 scopes.0 after.fine (λ many. bound_much id brand p.0 s p.1 here after.grown after.fine scopes many) (λ x z g added. here_leads s (StandsIn r.nodes (StructTerm id brand)) here x z (grows_on s p.1 z after.grown g)
+        (itself r.nodes strict inside id brand p.0 x z (added.0, added.1, record { entry = whole_entry id p.0; numbered = added.2; node = refl; whole = refl; same = same_bound_itself p.0 }) (after.later z g))))
         (λ q f. tt)))
 
     list_passed : (t : TypeTerm) (s : Named) → IfPassed X (type_of r.nodes strict inside t s) → AreHere s (StandsIn r.nodes (ListTerm t)) → F s → IfPassed X (type_of r.nodes strict inside (ListTerm t) s)
@@ -218,7 +216,7 @@ module _ (r : RequestTerm) (strict : Bool) (sound : AreNodesSound (bounds strict
         (type_meant K r.nodes whole strict inside t) (type_led r.nodes strict inside t) (here_leads s (StandsIn r.nodes t) (λ inner is z g. here inner (inr is) z g)) fine p e in
         passed_where X (nat_lt (lists_in p.0.type) 18446744073709551615) TooManyTypes (Ok (list_of p.0, p.1)) (λ deep same.
         let kept : Stay r.nodes p.1.entries = stay p.1.entries after.fine.kept in
-        DeepLists p.1.entries p.1.enums (led_at r strict p.1 kept.entries kept.distinct (once p.1.entries after.fine.kept) after.fine.reached) (record { inside = inside; element = t; type = p.0; stands = here (ListTerm t) (inl refl) p.1 after.grown; is = after.later p.1 (grows_none p.1); deep = ltb-false (lists_in p.0.type) 18446744073709551615 deep }))
+        DeepLists p.1.entries p.1.enums (led_at r strict p.1 kept.entries kept.distinct after.fine.reached) (record { inside = inside; element = t; type = p.0; stands = here (ListTerm t) (inl refl) p.1 after.grown; is = after.later p.1 (grows_none p.1); deep = ltb-false (lists_in p.0.type) 18446744073709551615 deep }))
         (λ few. tt))
 
     more_passed : (t : TypeTerm) (rest : BindingTerms) (count : ℕ) (s : Named) → IfPassed X (type_of r.nodes strict inside t s) → ((z : Named) → AreHere z (IsBindingAmong r.nodes rest count) → F z → IfPassed X (binding_types r.nodes strict inside rest count z)) → AreHere s (IsBindingAmong r.nodes (MoreBindings t rest) (suc count)) → F s
@@ -237,7 +235,7 @@ module _ (r : RequestTerm) (strict : Bool) (sound : AreNodesSound (bounds strict
       type_passed Interface is s here fine = interface_passed strict s
       type_passed (ListTerm t) is s here fine = list_passed t s (type_passed t is s (λ inner i z g. here inner (inr i) z g) fine) here fine
       type_passed (EnumTerm id) is s here fine = passed_bind X (number_enum r.nodes id) (λ number. work_of (plain (EnumType number))) s
-          (enum_passed inside id s fine (here (EnumTerm id) refl s (grows_none s))) (λ p e. tt)
+          (enum_passed id s fine (λ x z g added. here_leads s (StandsIn r.nodes (EnumTerm id)) here x z g (enum_itself r.nodes strict inside id x z added))) (λ p e. tt)
       type_passed (StructTerm id brand) is s here fine = struct_passed id brand (brand_passed brand is.1) s here fine
       type_passed (Parameter scope index) is s here fine = tt
       type_passed (UnreadType kind) is s here fine = λ same. absurd (is same)

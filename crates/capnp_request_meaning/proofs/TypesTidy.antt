@@ -123,7 +123,7 @@ by_bytes_apart bytes a b c d kind h i j k e = go (bytes == 1) (bytes == 2) (byte
     go false false true e = omega (arith, j, e)
     go false false false e = omega (arith, k, e)
 
-pub plain_kind : (t : SchemaType) → IsPlainType t → kind_in t ≡ 12 → ⊥
+plain_kind : (t : SchemaType) → IsPlainType t → kind_in t ≡ 12 → ⊥
 plain_kind VoidType h e = omega (arith, e)
 plain_kind BoolType h e = omega (arith, e)
 plain_kind (IntType bytes) h e = by_bytes_apart bytes 2 3 4 5 12 (omega arith) (omega arith) (omega arith) (omega arith) e
@@ -272,13 +272,13 @@ pub record SameParts (t u : MarkedType) : Type 0 where
   pub lists : lists_in t.type ≡ lists_in u.type
   pub marks : t.is_float ≡ u.is_float
 
-pub same_marks : (p q : Bool) → same_mark p q ≡ true → p ≡ q
+same_marks : (p q : Bool) → same_mark p q ≡ true → p ≡ q
 same_marks true true e = refl
 same_marks true false e = absurd (true≢false (sym e))
 same_marks false true e = absurd (true≢false (sym e))
 same_marks false false e = refl
 
-pub parts_of : (t u : MarkedType) → same_marked t u ≡ true → SameParts t u
+parts_of : (t u : MarkedType) → same_marked t u ≡ true → SameParts t u
 parts_of t u e =
     let both = and_parts (same_type t.type u.type) (same_mark t.is_float u.is_float) e in
     let types = and_parts ((kind_in t.type == kind_in u.type) && (entry_in t.type == entry_in u.type)) (lists_in t.type == lists_in u.type) both.0 in
@@ -351,14 +351,14 @@ scopes_same nodes (b ∷ bs) (c ∷ cs) e h =
 
 -- ---- terms in plain terms are plain ----
 
-pub any_of : (P : Bound → Type 0) (bs : List Bound) (Q : Type 0) → ((b : Bound) → P b → Q) → AnyBound P bs → Q
+any_of : (P : Bound → Type 0) (bs : List Bound) (Q : Type 0) → ((b : Bound) → P b → Q) → AnyBound P bs → Q
 any_of P [] Q f h = absurd h
 any_of P (b ∷ bs) Q f (inl h) = f b h
 any_of P (b ∷ bs) Q f (inr h) = any_of P bs Q f h
 
 module _ (nodes : List SchemaNode) where
   mutual
-    pub stands_plain : (t inner : TypeTerm) → IsTermPlain t → StandsIn nodes t inner → IsTermPlain inner
+    stands_plain : (t inner : TypeTerm) → IsTermPlain t → StandsIn nodes t inner → IsTermPlain inner
     stands_plain (MemberTerm t) inner p h = subst IsTermPlain (sym h) p
     stands_plain Float32 inner p h = subst IsTermPlain (sym h) p
     stands_plain Float64 inner p h = subst IsTermPlain (sym h) p
@@ -371,7 +371,7 @@ module _ (nodes : List SchemaNode) where
     stands_plain (Parameter scope index) inner p h = subst IsTermPlain (sym h) p
     stands_plain (UnreadType kind) inner p h = absurd h
 
-    pub binding_plain : (brand : BrandTerm) (b : Bound) (inner : TypeTerm) → IsBrandPlain brand → IsBindingOf nodes brand b inner → IsTermPlain inner
+    binding_plain : (brand : BrandTerm) (b : Bound) (inner : TypeTerm) → IsBrandPlain brand → IsBindingOf nodes brand b inner → IsTermPlain inner
     binding_plain NoScopes b inner p h = absurd h
     binding_plain (MoreScopes id says rest) b inner p (inl h) = said_plain says b.parameters inner p.0 h.1
     binding_plain (MoreScopes id says rest) b inner p (inr h) = binding_plain rest b inner p.1 h.1
@@ -398,7 +398,7 @@ each_at P (Err kind ∷ xs) (suc i) a h e = each_at P xs i a h e
 pub read_at : {A : Type 0} (P : A → Type 0) (d : Said (List (Said A))) (i : ℕ) (a : A) → AllRead P d → IsRead d i a → P a
 read_at {A = A} P d i a h read = each_at P read.list i a (subst (λ (x : Said (List (Said A))). AllRead P x) read.said h) read.there
 
-pub annotation_plain : (n : SchemaNode) (a : AnnotationTerm) → IsNodePlain n → HasAnnotation n a → IsAnnotationPlain a
+annotation_plain : (n : SchemaNode) (a : AnnotationTerm) → IsNodePlain n → HasAnnotation n a → IsAnnotationPlain a
 annotation_plain n a p (OfNode i read) = read_at IsAnnotationPlain n.annotations i a p.1 read
 annotation_plain n a p (OfField part i j f struct one read) =
     let field : IsFieldPlain f = read_at IsFieldPlain part.fields i f (subst IsNodeKindPlain struct p.0) one in

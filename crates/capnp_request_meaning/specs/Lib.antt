@@ -1,4 +1,3 @@
-pub mod Found
 pub mod Laws
 pub mod Meaning
 pub mod Noted

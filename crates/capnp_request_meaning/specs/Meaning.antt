@@ -7,7 +7,7 @@ use Rattle.capnp_request.specs.Conversion.{mark}
 use Rattle.capnp_request.specs.Names.{bound_name, dotted_of, file_where, occurrences_of}
 use Rattle.capnp_request.specs.Scopes.{bound_types, is_met, node_named, scopes_of}
 use Rattle.capnp_request.specs.Terms.{AnnotationNode, AnnotationTerm, Binds, BindingTerms, BrandTerm, EnumNode, EnumTerm, EnumerantTerm, FieldKindTerm, FieldTerm, Float32, Float64, GroupTerm, Inherits, Interface, ListTerm, MemberTerm, MoreBindings, MoreScopes, NoBindings, NoScopes, Parameter, RequestTerm, Said, SchemaNode, ScopeTerm, SlotTerm, StructNode, StructPart, StructTerm, TypeTerm, UnreadBrand, UnreadField, UnreadScope, UnreadType, ValueTerm}
-use Rattle.capnp_request.specs.Types.{bound_count, bound_to, enum_position, is_entry_of, is_enum, is_of_kind, list_of, lists_in, same_bound, without_untyped}
+use Rattle.capnp_request.specs.Types.{bound_to, enum_position, is_entry_of, is_enum, is_of_kind, list_of, same_bound, without_untyped}
 use Rattle.capnp_request.specs.Values.{value_stated}
 use Rattle.capnp_request.specs.Work.{Bound, Entry, GroupOf, MarkedType, Place, Whole, float_of, plain}
 use Rattle.capnp_request_meaning.specs.Plain.{AreNodesPlain}
@@ -62,10 +62,6 @@ AreEntries nodes entries (e ∷ es) = IsEntryAt nodes entries e e.place × AreEn
 abbrev pub AreDistinct : List Entry → Type 0
 AreDistinct es = (i j : ℕ) (e f : Entry) → i < j → slice_get es i ≡ Some e → slice_get es j ≡ Some f → f.place ≡ Whole → is_entry_of f.node f.bound e e.place ≡ false
 
--- nor are two of them the group of one field of an entry
-abbrev pub AreGroupsDistinct : List Entry → Type 0
-AreGroupsDistinct es = (i j p l : ℕ) (e f : Entry) → i < j → slice_get es i ≡ Some e → slice_get es j ≡ Some f → e.place ≡ GroupOf p l → f.place ≡ GroupOf p l → ⊥
-
 -- ---- types ----
 
 -- what a set is read beside: the schema nodes, whether stand-ins are refused, and what numbers stand for: entries, and enums
@@ -90,17 +86,16 @@ EachBound P (b ∷ bs) = P b × EachBound P bs
 
 -- The type of a term inside an entry; what a brand binds to the parameters of a scope, where its first scope of that id
 -- counts; and bindings in a row. Floats and interfaces have stand-ins, and none is taken where that is refused. A float stays
--- a type of its own beside the integer that stands for it, so that what is bound to a parameter tells them apart. A list's elements
--- are in fewer than 2^64 - 1 lists, and a struct binds at most 1,024 types.
+-- a type of its own beside the integer that stands for it, so that what is bound to a parameter tells them apart.
 abbrev mutual
   pub IsTypeOf : Numbers → (inside : List Bound) → TypeTerm → MarkedType → Type 0
   IsTypeOf k inside (MemberTerm t) u = u ≡ plain t
   IsTypeOf k inside Float32 u = (k.strict ≡ false) × (u ≡ float_of 4)
   IsTypeOf k inside Float64 u = (k.strict ≡ false) × (u ≡ float_of 8)
   IsTypeOf k inside Interface u = (k.strict ≡ false) × (u ≡ plain AnyPointerType)
-  IsTypeOf k inside (ListTerm t) u = (element : MarkedType) × (u ≡ list_of element) × IsTypeOf k inside t element × (lists_in element.type < 18446744073709551615)
+  IsTypeOf k inside (ListTerm t) u = (element : MarkedType) × (u ≡ list_of element) × IsTypeOf k inside t element
   IsTypeOf k inside (EnumTerm id) u = (n : ℕ) × (u ≡ plain (EnumType n)) × (slice_get k.enums n ≡ Some id)
-  IsTypeOf k inside (StructTerm id brand) u = (n : ℕ) × (u ≡ plain (StructType n n)) × (bound : List Bound) × IsStructNumber k id bound n × EachBound (IsBoundBy k inside brand) bound × (bound_count bound ≤ 1024)
+  IsTypeOf k inside (StructTerm id brand) u = (n : ℕ) × (u ≡ plain (StructType n n)) × (bound : List Bound) × IsStructNumber k id bound n × EachBound (IsBoundBy k inside brand) bound
   IsTypeOf k inside (Parameter scope index) u = u ≡ bound_to inside scope index
   IsTypeOf k inside (UnreadType kind) u = ⊥
 
@@ -317,17 +312,11 @@ pub data IsListed (r : RequestTerm) : ℕ → Type 0 where
   OfFile : (ids : List ℕ) (id : ℕ) → r.files ≡ Ok ids → is_met ids id ≡ true → IsListed r id
   NestedIn : (outer : ℕ) (n : SchemaNode) (ids : List ℕ) (id : ℕ) → IsListed r outer → node_named r.nodes outer ≡ Some n → n.nested ≡ Ok ids → is_met ids id ≡ true → IsListed r id
 
--- the set has the entry of an id with nothing bound, by the display name of its schema node, or by what stands behind that
--- name's last colon
-pub record IsFound (entries : List Entry) (set : Schemas) (id : ℕ) (n : SchemaNode) : Type 0 where
+-- the set has a node of an id by the display name of its schema node, or by what stands behind that name's last colon
+pub record IsFound (set : Schemas) (id : ℕ) (n : SchemaNode) : Type 0 where
   pub number : ℕ
-  pub entry : Entry
   pub node : Node
   pub display : List ℕ
-  pub there : slice_get entries number ≡ Some entry
-  pub same_node : entry.node ≡ id
-  pub whole : entry.place ≡ Whole
-  pub unbound : AreUnbound entry.bound
   pub numbered : slice_get set.nodes number ≡ Some node
   pub same_id : node.id ≡ id
   pub said : n.display_name ≡ Ok display
@@ -373,11 +362,10 @@ abbrev mutual
   IsBindingAmong nodes (MoreBindings t rest) zero inner = ⊥
   IsBindingAmong nodes (MoreBindings t rest) (suc count) inner = StandsIn nodes t inner ⊎ IsBindingAmong nodes rest count inner
 
--- a struct's type inside an entry is that of an entry, and an enum's is the first of its id, which an enum node has, below
--- 2^32 - 1
+-- a struct's type inside an entry is that of an entry, and an enum's is the first of its id, which an enum node has
 abbrev pub IsTarget : Numbers → (inside : List Bound) → TypeTerm → Target → Type 0
 IsTarget k inside (StructTerm id brand) (EntryAt n) = IsTypeOf k inside (StructTerm id brand) (plain (StructType n n))
-IsTarget k inside (EnumTerm id) (EnumAt n) = (enum_position k.enums id 0 ≡ Some n) × (is_of_kind is_enum (node_named k.nodes id) ≡ true) × (n < 4294967295)
+IsTarget k inside (EnumTerm id) (EnumAt n) = (enum_position k.enums id 0 ≡ Some n) × (is_of_kind is_enum (node_named k.nodes id) ≡ true)
 IsTarget k inside t x = ⊥
 
 -- one of the types that stand somewhere is
@@ -431,11 +419,10 @@ pub record IsSetOf (r : RequestTerm) (strict : Bool) (set : Schemas) : Type 0 wh
   pub entries : List Entry
   pub bound : AreEntries r.nodes entries entries
   pub distinct : AreDistinct entries
-  pub distinct_groups : AreGroupsDistinct entries
   pub few : length entries ≤ 65536
   pub nodes : AreNodesFrom (numbers_in r strict entries set) [] [] entries set.nodes set.brands
   pub enums : AreEnumsOf (numbers_in r strict entries set) set.enums
   pub distinct_enums : (i j : ℕ) (e f : Enum) → slice_get set.enums i ≡ Some e → slice_get set.enums j ≡ Some f → e.id ≡ f.id → i ≡ j
-  pub roots : (id : ℕ) (n : SchemaNode) (part : StructPart) → IsListed r id → node_named r.nodes id ≡ Some n → n.kind ≡ StructNode part → part.is_group ≡ false → IsFound entries set id n
+  pub roots : (id : ℕ) (n : SchemaNode) (part : StructPart) → IsListed r id → node_named r.nodes id ≡ Some n → n.kind ≡ StructNode part → part.is_group ≡ false → IsFound set id n
   pub reached : (n : ℕ) (e : Entry) → slice_get entries n ≡ Some e → IsReached r (numbers_in r strict entries set) (EntryAt n)
   pub reached_enums : (n : ℕ) (e : Enum) → slice_get set.enums n ≡ Some e → IsReached r (numbers_in r strict entries set) (EnumAt n)

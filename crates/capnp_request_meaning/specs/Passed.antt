@@ -1,12 +1,12 @@
 -- The bounds of a conversion, and requests that pass one.
-use Rattle.std.specs.Prelude.{ℕ, ◌<◌, ◌≤◌, ◌≡◌, List, [], ◌∷◌, ◌++◌, Bool, true, length, map, slice_get, Some, None, Ok}
+use Rattle.std.specs.Prelude.{ℕ, ◌<◌, ◌≤◌, ◌≡◌, List, [], ◌∷◌, ◌++◌, Bool, length, map, slice_get, Some, Ok}
 use Rattle.capnp_device.specs.declared.error.ErrorKind.TheVariants.{TooManyTypes}
 use Rattle.capnp_schema.specs.Schema.{Brand, Node}
 use Rattle.capnp_request.specs.Scopes.{node_named, scopes_of}
-use Rattle.capnp_request.specs.Terms.{AnnotationNode, AnnotationTerm, EnumTerm, FieldTerm, ListTerm, RequestTerm, SchemaNode, SlotTerm, StructNode, StructPart, TypeTerm, ValueTerm, BrandTerm, StructTerm}
-use Rattle.capnp_request.specs.Types.{bound_count, enum_position, is_enum, is_of_kind, lists_in}
+use Rattle.capnp_request.specs.Terms.{AnnotationNode, AnnotationTerm, FieldTerm, ListTerm, RequestTerm, SchemaNode, SlotTerm, StructNode, StructPart, TypeTerm, ValueTerm, BrandTerm, StructTerm}
+use Rattle.capnp_request.specs.Types.{lists_in, bound_count}
 use Rattle.capnp_request.specs.Work.{Bound, Entry, GroupOf, MarkedType, Place, Whole}
-use Rattle.capnp_request_meaning.specs.Meaning.{AnyBound, AreDistinct, AreEntries, AreGroupsDistinct, AreNodesFrom, EachBound, EntryAt, EnumAt, HasAnnotation, IsBindingOf, IsBoundBy, IsEnumNamed, IsGroupName, IsNameOf, IsNodeAt, IsReached, IsRead, IsTypeOf, Numbers, StandsIn, Target, without_types}
+use Rattle.capnp_request_meaning.specs.Meaning.{AnyBound, AreDistinct, AreEntries, AreNodesFrom, EachBound, EntryAt, EnumAt, HasAnnotation, IsBindingOf, IsBoundBy, IsEnumNamed, IsGroupName, IsNameOf, IsNodeAt, IsReached, IsRead, IsTypeOf, Numbers, StandsIn, Target, without_types}
 use Rattle.capnp_request_meaning.specs.Sound.{Refusal}
 
 -- the refusal of bounds
@@ -20,7 +20,6 @@ numbers_of r strict entries enums = record { nodes = r.nodes; strict = strict; e
 pub record AreLed (r : RequestTerm) (k : Numbers) : Type 0 where
   pub bound : AreEntries r.nodes k.entries k.entries
   pub distinct : AreDistinct k.entries
-  pub distinct_groups : AreGroupsDistinct k.entries
   pub distinct_enums : (i j id : ℕ) → slice_get k.enums i ≡ Some id → slice_get k.enums j ≡ Some id → i ≡ j
   pub reached : (n : ℕ) (e : Entry) → slice_get k.entries n ≡ Some e → IsReached r k (EntryAt n)
   pub reached_enums : (n id : ℕ) → slice_get k.enums n ≡ Some id → IsReached r k (EnumAt n)
@@ -81,31 +80,12 @@ pub record IsEnumNameLong (k : Numbers) : Type 0 where
   pub is : IsEnumNamed k.nodes id name
   pub long : 1024 < length name
 
--- an enum's type stands somewhere that is none of 2^32 - 1 others
-pub record IsEnumMore (r : RequestTerm) (k : Numbers) : Type 0 where
-  pub inside : List Bound
-  pub id : ℕ
-  pub stands : StandsAt r k inside (EnumTerm id)
-  pub is_enum_node : is_of_kind is_enum (node_named k.nodes id) ≡ true
-  pub more : enum_position k.enums id 0 ≡ None
-  pub many : 4294967295 ≤ length k.enums
-
--- A request leads to more than 65,536 entries or 2^32 - 1 enums, to a type that binds more than 1,024 types, to a long name, or to
--- lists so deep in one another.
+-- A request leads to more than 65,536 entries, to a type that binds more than 1,024 types, to a long name, or to lists so deep in
+-- one another; or it has 2^32 nodes, as where it leads to so many enums.
 pub data IsPassed (r : RequestTerm) (strict : Bool) : Type 0 where
   ManyEntries : (entries : List Entry) (enums : List ℕ) → AreLed r (numbers_of r strict entries enums) → 65536 < length entries → IsPassed r strict
   ManyBound : (entries : List Entry) (enums : List ℕ) → AreLed r (numbers_of r strict entries enums) → IsBoundMuch r (numbers_of r strict entries enums) → IsPassed r strict
-  ManyEnums : (entries : List Entry) (enums : List ℕ) → AreLed r (numbers_of r strict entries enums) → IsEnumMore r (numbers_of r strict entries enums) → IsPassed r strict
+  ManyNodes : 4294967295 < length r.nodes → IsPassed r strict
   LongName : (entries : List Entry) (enums : List ℕ) → AreLed r (numbers_of r strict entries enums) → IsNameLong (numbers_of r strict entries enums) → IsPassed r strict
   LongEnumName : (entries : List Entry) (enums : List ℕ) → AreLed r (numbers_of r strict entries enums) → IsEnumNameLong (numbers_of r strict entries enums) → IsPassed r strict
   DeepLists : (entries : List Entry) (enums : List ℕ) → AreLed r (numbers_of r strict entries enums) → IsNestedDeep r (numbers_of r strict entries enums) → IsPassed r strict
-
--- Bounds past which a request is refused whatever its entries' numbers are. How long a struct's name is goes by these: by which
--- entry has its file before its name.
-abbrev pub IsCertain : (r : RequestTerm) (strict : Bool) → IsPassed r strict → Type 0
-IsCertain r strict (ManyEntries entries enums led many) = Unit {0}
-IsCertain r strict (ManyBound entries enums led much) = Unit {0}
-IsCertain r strict (ManyEnums entries enums led more) = Unit {0}
-IsCertain r strict (LongName entries enums led long) = ⊥
-IsCertain r strict (LongEnumName entries enums led long) = Unit {0}
-IsCertain r strict (DeepLists entries enums led deep) = Unit {0}

@@ -2,13 +2,12 @@
 use Rattle.std.specs.Prelude.{ℕ, zero, suc, ◌-◌, ◌≤◌, ◌≡◌, ◌⊎◌, ◌==◌, ◌||◌, List, [], ◌∷◌, Bool, true, false, bytes_eq, codes, length, map, slice_get, Some, Ok}
 use Rattle.capnp_schema.specs.Schema.{Node, Schemas}
 use Rattle.capnp_schema.specs.Types.{SchemaType, AnyPointerType, BoolType, DataType, EnumType, IntType, ListType, StructType, TextType, UIntType, VoidType}
-use Rattle.capnp_request.specs.Names.{dotted_of, has_colon, occurrences_of, part_bindings, set_type_name}
+use Rattle.capnp_request.specs.Names.{dotted_of, occurrences_of, part_bindings, set_type_name}
 use Rattle.capnp_request.specs.Scopes.{node_named, scopes_of}
 use Rattle.capnp_request.specs.Terms.{FieldTerm, NodeKind, SchemaNode, StructNode, StructPart}
 use Rattle.capnp_request.specs.Types.{by_bytes, is_enum, is_struct_kind, kind_number}
 use Rattle.capnp_request.specs.Work.{Bound, Entry, MarkedType, Whole, plain}
 use Rattle.capnp_request_meaning.specs.Meaning.{AreAmongFirst, EachBound, IsNameOf, IsRead, Numbers}
-use Rattle.capnp_request_meaning.specs.Plain.{AreNodesPlain}
 
 -- a name without brackets
 abbrev pub IsBare : List ℕ → Type 0
@@ -29,11 +28,6 @@ HaveOwnParts dots (b ∷ bs) = EachBound (λ (c : Bound). (dots - c.distance == 
 pub record HasBareNames (nodes : List SchemaNode) : Type 0 where
   pub display : (id : ℕ) (n : SchemaNode) (display : List ℕ) → node_named nodes id ≡ Some n → n.display_name ≡ Ok display → IsBare display
   pub field : (id : ℕ) (n : SchemaNode) (part : StructPart) (i : ℕ) (f : FieldTerm) (name : List ℕ) → node_named nodes id ≡ Some n → n.kind ≡ StructNode part → IsRead part.fields i f → f.name ≡ Ok name → IsBare name
-
--- the display name of each struct node has a file before its last colon, and no other such node has it
-pub record HasOwnNames (nodes : List SchemaNode) : Type 0 where
-  pub file : (id : ℕ) (n : SchemaNode) (display : List ℕ) → node_named nodes id ≡ Some n → is_struct_kind n.kind ≡ true → n.display_name ≡ Ok display → has_colon display ≡ true
-  pub own : (id other : ℕ) (n m : SchemaNode) (display : List ℕ) → node_named nodes id ≡ Some n → node_named nodes other ≡ Some m → is_struct_kind n.kind ≡ true → is_struct_kind m.kind ≡ true → n.display_name ≡ Ok display → m.display_name ≡ Ok display → id ≡ other
 
 -- the node of an entry that is no group
 pub record IsWholeAt (entries : List Entry) (set : Schemas) (i : ℕ) (e : Entry) (n : Node) : Type 0 where
@@ -97,14 +91,6 @@ pub record HasClearNames (nodes : List SchemaNode) : Type 0 where
   pub display : (id : ℕ) (n : SchemaNode) (display : List ℕ) → node_named nodes id ≡ Some n → n.display_name ≡ Ok display → HasNoComma display
   pub field : (id : ℕ) (n : SchemaNode) (part : StructPart) (i : ℕ) (f : FieldTerm) (name : List ℕ) → node_named nodes id ≡ Some n → n.kind ≡ StructNode part → IsRead part.fields i f → f.name ≡ Ok name → HasNoComma name
   pub parts : (id : ℕ) (n : SchemaNode) (display : List ℕ) (scopes : List Bound) → node_named nodes id ≡ Some n → n.display_name ≡ Ok display → scopes_of nodes id ≡ Ok scopes → HaveOwnParts (occurrences_of 46 (dotted_of display)) scopes
-
--- what tells entries that are no groups apart by their names
-pub record AreStructsToldApart (nodes : List SchemaNode) : Type 0 where
-  pub own : HasOwnNames nodes
-  pub bare : HasBareNames nodes
-  pub clear : HasClearNames nodes
-  pub distinct : HasDistinctNames nodes
-  pub are_plain : AreNodesPlain nodes
 
 abbrev pub is_named_type : SchemaType → Bool
 is_named_type VoidType = false

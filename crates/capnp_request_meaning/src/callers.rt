@@ -1,17 +1,15 @@
-//! Proved callers: the laws serve what `read_request` gives, and the set that is made of it.
+//! A proved caller: the laws serve what `read_request` gives.
 ghost use Rattle.std.specs.Prelude.{IfErr, IfOk};
-ghost use Rattle.capnp_schema.specs.Entries.{lists_seen};
 ghost use Rattle.capnp_schema.specs.Schema.{seen_schemas};
 ghost use Rattle.capnp_dynamic_readers.specs.Seen.{record_seen};
 ghost use Rattle.capnp_request.specs.Handles.{IsRequestRecord};
 ghost use Rattle.capnp_request.specs.Refusals.{IsRefusal};
 ghost use Rattle.capnp_request.specs.StructsSeen.{seen_notes};
-ghost use Rattle.capnp_request_meaning.specs.Laws.{FindsRequested, IsSetOfRecord};
+ghost use Rattle.capnp_request_meaning.specs.Laws.{IsSetOfRecord};
 
 use crate::laws::set_means_its_request;
 use capnp_dynamic_readers::dynamic_struct;
 use capnp_request::{Converted, read_request};
-use capnp_schema::set::SchemaSet;
 use capnp_wire::error::Result;
 use std::alloc::Global;
 
@@ -33,29 +31,4 @@ pub fn read_set(
     set_means_its_request();
     let made = read_request(alloc, reader, strict)?;
     Ok(made)
-}
-
-/// The checked set of a request. A query by its display name finds each struct of the requested files there, where the request's
-/// struct nodes have names of their own without brackets.
-///
-/// # Conditions
-///
-/// The reader is of brand 0 of the request set (`IsRequestRecord`).
-pub fn read_schemas(
-    alloc: Global,
-    reader: dynamic_struct::Reader<'_>,
-    strict: bool,
-) -> Result<SchemaSet>
-    requires { IsRequestRecord 0 reader }
-    ensures found { IfOk result (λ schemas. FindsRequested (record_seen reader.entry) (lists_seen schemas)) }
-{
-    let made = read_set(alloc, reader, strict)?;
-    let Converted {
-        nodes,
-        brands,
-        enums,
-        ..
-    } = made;
-    let schemas = SchemaSet::new(alloc, nodes, brands, enums)?;
-    Ok(schemas)
 }

@@ -1,5 +1,5 @@
 //! What holds of each conversion.
-ghost use Rattle.capnp_request_meaning.specs.Laws.{AllNamesDiffer, BoundNamesAreOwn, BoundNamesDiffer, BoundTypesAreAlike, BoundTypesHaveNames, BoundsArePassed, BoundsAreRefused, EachStructIsFound, GroupNamesAreShared, GroupsAreMarked, GroupsShareWithStructs, NamesFindStructs, NotesTellWhatStands, NothingIsMissing, RefusalsHaveCauses, SetMeansItsRecord, SetMeansItsRequest, UnboundNamesDiffer};
+ghost use Rattle.capnp_request_meaning.specs.Laws.{BoundNamesAreOwn, BoundNamesDiffer, BoundTypesAreAlike, BoundTypesHaveNames, BoundsArePassed, NotesTellWhatStands, NothingIsMissing, RefusalsHaveCauses, SetMeansItsRecord, SetMeansItsRequest, UnboundNamesDiffer};
 
 /// The set that a request is converted to says of the request what `IsSetOf` says: each entry is a struct node of the
 /// request with bindings, or the group that a field names, and has what its node has. Structs of the requested files lead to
@@ -48,33 +48,6 @@ pub fn bound_types_have_names()
     ensures { BoundTypesHaveNames }
 {}
 
-/// In a set that the check accepts the groups of fields are marked as groups, and no other struct is. So a query by name passes
-/// over exactly the groups.
-pub fn groups_are_marked()
-    ensures { GroupsAreMarked }
-{}
-
-/// Each struct of the requested files, nested ones too, is what a query by its display name finds in a set that the check accepts.
-/// Each struct node of the request has a name of its own there, and no name has a bracket. Groups may have the same name.
-pub fn structs_are_found()
-    ensures { EachStructIsFound }
-{}
-
-/// So is each entry that is no group, with types bound to its parameters, where no two of these have one name (`bound_names_are_own`).
-/// So no two structs are found by one name.
-pub fn names_find_structs()
-    ensures { NamesFindStructs }
-{}
-
-/// A group is named by its parent, a dot and its field. Where names of fields are one part each, two groups have one name exactly
-/// where their fields have one, as have their parents. A group and a struct have one only where the struct's node is named so,
-/// behind the last dot or colon. Nodes of which no struct is named as a field of a group, among others, tell all entries apart.
-pub fn group_names_differ()
-    ensures groups { GroupNamesAreShared }
-    ensures structs { GroupsShareWithStructs }
-    ensures all { AllNamesDiffer }
-{}
-
 /// A request of which no part is a cause of a refusal isn't refused so. `FloatType` and `InterfaceType` come only where
 /// stand-ins are refused, and a float or an interface stands in a type. `TooLarge` comes only where a value has 2^29 words or
 /// more, and `NameNotUtf8` only where a name isn't UTF-8. Refusals of reads come only where a part can't be read. Of
@@ -91,16 +64,9 @@ pub fn nothing_is_missing()
 {}
 
 /// A request of which no part is refused so itself is refused with `TooManyTypes` only where it passes a bound. It leads to more
-/// than 65,536 structs with bindings and groups or 2^32 - 1 enums, no two alike, or to a name of more than 1,024 bytes. Or it leads
-/// to a struct's type that binds more than 1,024 types, or to elements of a list in 2^64 - 1 lists or more. The conversion's steps
-/// are always enough.
+/// than 65,536 structs with bindings and groups, no two alike, to a name of more than 1,024 bytes, or to a struct's type that
+/// binds more than 1,024 types. Or it has 2^32 nodes, or elements of a list stand in 2^64 - 1 lists or more. The conversion's
+/// steps are always enough.
 pub fn bounds_are_passed()
     ensures { BoundsArePassed }
-{}
-
-/// A request that leads to more than 65,536 structs with bindings and groups or 2^32 - 1 enums, no two alike, is refused. So is one
-/// that leads to a type that binds more than 1,024 types, to an enum's name of more than 1,024 bytes, or to 2^64 - 1 lists in one
-/// another. It is said of requests whose member types are no structs or enums by number, as those of records are.
-pub fn bounds_are_refused()
-    ensures { BoundsAreRefused }
 {}
