@@ -5,8 +5,8 @@ use Rattle.capnp_request.proofs.PartsRead.{active_in, there}
 use Rattle.capnp_request.proofs.PointersSeen.{data_refused, data_taken, refused_kinds}
 use Rattle.capnp_request.proofs.parts.data_at.Goals as goal
 
-pub data_at-requires-active : goal.data_at-requires-active
-data_at-requires-active c = active_in c.args.reader c.get_sections.result c.args.brand c.requires.record c.get_sections.ensures c.args.index c.requires.active
+pub data_at-requires-clause-active : goal.data_at-requires-clause-active
+data_at-requires-clause-active c = active_in c.args.reader c.get_sections.result c.args.brand c.requires.record c.get_sections.ensures c.args.index c.requires.active
 
 pub returns-clause-read : goal.returns-clause-read
 returns-clause-read c = data_taken c.data_at.result (request_read_at c.args.brand c.args.index (record_seen c.args.reader)) (there c.args.reader c.get_sections.result c.args.brand c.requires.record c.get_sections.ensures c.args.index c.data_at.ensures)

@@ -1,8 +1,15 @@
+-- The number with its sign is what is read of the sections, which is what the record holds there.
+use Rattle.std.proofs.Common.{ap, ◌∙◌}
+use Rattle.std.specs.Int.{w16}
+use Rattle.std.proofs.lemmas.Int.{to_z-of_z}
+use Rattle.capnp_records.specs.Record as value
 use Rattle.capnp_request.proofs.PartsRead.{active_in, there}
 use Rattle.capnp_request.proofs.parts.i16_at.Goals as goal
 
-pub i16_at-requires-active : goal.i16_at-requires-active
-i16_at-requires-active c = active_in c.args.reader c.get_sections.result c.args.brand c.requires.record c.get_sections.ensures c.args.index c.requires.active
+pub i16_at-requires-clause-active : goal.i16_at-requires-clause-active
+i16_at-requires-clause-active c = active_in c.args.reader c.get_sections.result c.args.brand c.requires.record c.get_sections.ensures c.args.index c.requires.active
 
 pub returns : goal.returns
-returns c = there c.args.reader c.get_sections.result c.args.brand c.requires.record c.get_sections.ensures c.args.index c.i16_at.ensures
+returns c =
+    ap (λ x. value.Number x) (to_z-of_z w16 c.i16_at.result c.i16_at.type_inv)
+    ∙ there c.args.reader c.get_sections.result c.args.brand c.requires.record c.get_sections.ensures c.args.index c.i16_at.ensures

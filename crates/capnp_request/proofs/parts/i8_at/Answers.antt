@@ -1,8 +1,15 @@
+-- The number with its sign is what is read of the sections, which is what the record holds there.
+use Rattle.std.proofs.Common.{ap, ◌∙◌}
+use Rattle.std.specs.Int.{w8}
+use Rattle.std.proofs.lemmas.Int.{to_z-of_z}
+use Rattle.capnp_records.specs.Record as value
 use Rattle.capnp_request.proofs.PartsRead.{active_in, there}
 use Rattle.capnp_request.proofs.parts.i8_at.Goals as goal
 
-pub i8_at-requires-active : goal.i8_at-requires-active
-i8_at-requires-active c = active_in c.args.reader c.get_sections.result c.args.brand c.requires.record c.get_sections.ensures c.args.index c.requires.active
+pub i8_at-requires-clause-active : goal.i8_at-requires-clause-active
+i8_at-requires-clause-active c = active_in c.args.reader c.get_sections.result c.args.brand c.requires.record c.get_sections.ensures c.args.index c.requires.active
 
 pub returns : goal.returns
-returns c = there c.args.reader c.get_sections.result c.args.brand c.requires.record c.get_sections.ensures c.args.index c.i8_at.ensures
+returns c =
+    ap (λ x. value.Number x) (to_z-of_z w8 c.i8_at.result c.i8_at.type_inv)
+    ∙ there c.args.reader c.get_sections.result c.args.brand c.requires.record c.get_sections.ensures c.args.index c.i8_at.ensures

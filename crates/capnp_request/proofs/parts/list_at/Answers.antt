@@ -12,8 +12,8 @@ use Rattle.capnp_request.proofs.PointersSeen.{fault_kinds}
 use Rattle.capnp_request.proofs.Sounds.{read_at_sound, seen_sound}
 use Rattle.capnp_request.proofs.parts.list_at.Goals as goal
 
-pub structs_at-requires-active : goal.structs_at-requires-active
-structs_at-requires-active c = active_in c.args.reader c.get_sections-sections.result c.args.brand c.requires.record c.get_sections-sections.ensures c.args.index c.requires.active
+pub structs_at-requires-clause-active : goal.structs_at-requires-clause-active
+structs_at-requires-clause-active c = active_in c.args.reader c.get_sections-sections.result c.args.brand c.requires.record c.get_sections-sections.ensures c.args.index c.requires.active
 
 pub returns-in-Ok-clause-read : goal.returns-in-Ok-clause-read
 returns-in-Ok-clause-read c =

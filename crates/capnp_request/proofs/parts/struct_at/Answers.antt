@@ -8,8 +8,8 @@ use Rattle.capnp_request.proofs.PartsRead.{active_in, there}
 use Rattle.capnp_request.proofs.PointersSeen.{fault_kinds}
 use Rattle.capnp_request.proofs.parts.struct_at.Goals as goal
 
-pub struct_at-requires-active : goal.struct_at-requires-active
-struct_at-requires-active c = active_in c.args.reader c.get_sections-sections.result c.args.brand c.requires.record c.get_sections-sections.ensures c.args.index c.requires.active
+pub struct_at-requires-clause-active : goal.struct_at-requires-clause-active
+struct_at-requires-clause-active c = active_in c.args.reader c.get_sections-sections.result c.args.brand c.requires.record c.get_sections-sections.ensures c.args.index c.requires.active
 
 pub returns-in-Ok-clause-read : goal.returns-in-Ok-clause-read
 returns-in-Ok-clause-read c =

@@ -5,8 +5,8 @@ use Rattle.capnp_request.proofs.PartsRead.{active_in, there}
 use Rattle.capnp_request.proofs.PointersSeen.{text_refused, text_taken, refused_kinds}
 use Rattle.capnp_request.proofs.parts.text_at.Goals as goal
 
-pub text_at-requires-active : goal.text_at-requires-active
-text_at-requires-active c = active_in c.args.reader c.get_sections.result c.args.brand c.requires.record c.get_sections.ensures c.args.index c.requires.active
+pub text_at-requires-clause-active : goal.text_at-requires-clause-active
+text_at-requires-clause-active c = active_in c.args.reader c.get_sections.result c.args.brand c.requires.record c.get_sections.ensures c.args.index c.requires.active
 
 pub returns-clause-read : goal.returns-clause-read
 returns-clause-read c = text_taken c.text_at.result (request_read_at c.args.brand c.args.index (record_seen c.args.reader)) (there c.args.reader c.get_sections.result c.args.brand c.requires.record c.get_sections.ensures c.args.index c.text_at.ensures)

@@ -1,8 +1,8 @@
 use Rattle.capnp_request.proofs.PartsRead.{active_in, there}
 use Rattle.capnp_request.proofs.parts.u16_at.Goals as goal
 
-pub u16_at-requires-active : goal.u16_at-requires-active
-u16_at-requires-active c = active_in c.args.reader c.get_sections.result c.args.brand c.requires.record c.get_sections.ensures c.args.index c.requires.active
+pub u16_at-requires-clause-active : goal.u16_at-requires-clause-active
+u16_at-requires-clause-active c = active_in c.args.reader c.get_sections.result c.args.brand c.requires.record c.get_sections.ensures c.args.index c.requires.active
 
 pub returns : goal.returns
 returns c = there c.args.reader c.get_sections.result c.args.brand c.requires.record c.get_sections.ensures c.args.index c.u16_at.ensures
