@@ -29,7 +29,7 @@ pub(crate) fn note_fault(alloc: Global, steps: &[Step<'_>], refusal: &Refusal<'_
     })
 }
 
-/// The same, or that there is no memory for its note.
+/// A refusal below a path, as its fault with the place in its note, or that there is no memory for the note.
 pub(crate) fn tell_place(alloc: Global, steps: &[Step<'_>], refusal: &Refusal<'_>) -> Fault
     ensures told { result.error.kind ≢ OutOfMemory
         → IsToldAs refusal.now.kind (place_note (path_seen steps.now) refusal.now.place) result }

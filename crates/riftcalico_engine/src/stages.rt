@@ -105,7 +105,7 @@ pub(crate) enum Way {
     Whole,
     /// One after another; whether it goes on behind a refused one.
     Each(bool),
-    /// The same of packed ones.
+    /// Packed messages one after another; whether it goes on behind a refused one.
     Packed(bool),
 }
 
