@@ -1,3 +1,4 @@
+-- A new edge is chained behind the last one of the same struct, and joins the struct and what names it.
 use Rattle.std.proofs.Common.{arith, refl}
 use Rattle.capnp_differences.proofs.Edges.{chained_more, joins_one}
 use Rattle.capnp_differences.proofs.namers.push_edge.Goals as goal

@@ -1,3 +1,4 @@
+-- A text that is no JSON has its first fault for the refusal of every value of it.
 use Rattle.std.proofs.Common.{refl, sym, ◌∙◌}
 use Rattle.capnp_from_json.proofs.Refusals.{error_at}
 use Rattle.capnp_from_json.specs.declared.error.RefusalKind.TheVariants.{NotJson}

@@ -1,3 +1,4 @@
+-- The message that was made is its own witness: its root, its bounds and its output are those of the arena.
 use Rattle.std.proofs.Common.{IfOk, Result, refl, sym, subst}
 use Rattle.capnp_device.specs.declared.error.Error.{Error}
 use Rattle.capnp_arena.specs.Message.{message_tree}
