@@ -1,5 +1,5 @@
 -- What holds of an answer for each power of ten that its tens and tenths stand for holds for one.
-use Rattle.std.proofs.Common.{ℕ, ◌≡◌, ◌+◌, ◌-◌, ◌*◌, ◌^◌, ◌<◌, ◌≤◌, Option, Some, None, IfSome, IfNone, cond, sym, ap, ◌∙◌, subst, arith, lit<}
+use Rattle.std.proofs.Common.{ℕ, ◌≡◌, ◌+◌, ◌-◌, ◌*◌, ◌^◌, ◌<◌, ◌≤◌, Option, Some, None, IfSome, IfNone, cond, sym, subst, arith, lit<}
 use lib.IntN.{ℤ}
 use Rattle.capnp_floats.specs.declared.digits.Digits.{Digits}
 use Rattle.capnp_floats.specs.declared.width.Width.{Width}

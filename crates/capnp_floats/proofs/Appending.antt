@@ -1,11 +1,11 @@
 -- Digits that are put behind others, and exponents by their text.
-use Rattle.std.proofs.Common.{ℕ, suc, ◌≡◌, ◌+◌, ◌-◌, ◌*◌, ◌^◌, ◌<◌, ◌≤◌, ◌⊎◌, ⊎_elim, inl, inr, Bool, true, false, cond, ltb, List, ◌∷◌, length, get_or, drop, refl, sym, ap, ◌∙◌, subst, arith, lit<}
+use Rattle.std.proofs.Common.{ℕ, suc, ◌≡◌, ◌+◌, ◌-◌, ◌*◌, ◌^◌, ◌<◌, ◌≤◌, ◌⊎◌, ⊎_elim, inl, inr, Bool, true, false, cond, ltb, List, length, get_or, drop, refl, sym, ap, ◌∙◌, subst, arith, lit<}
 use Rattle.std.proofs.Math.Nat.{pow-le-pow_right}
 use Rattle.std.proofs.Math.Seq.{drop-cons}
 use Rattle.std.proofs.lemmas.Nat.{pow-add}
 use Rattle.std.proofs.lemmas.Bool.{both_ways, cases_lt, cond-true, cond-false, cond_both, ltb-true, ltb-false}
 use Rattle.std.specs.Char.{is_ascii_digit}
-use lib.IntN.{ℤ, pos, negsuc}
+use lib.IntN.{pos, negsuc}
 use Rattle.capnp_floats.specs.declared.digits.Digits.{Digits}
 use Rattle.capnp_floats.specs.Naturals.{large_room}
 use Rattle.capnp_floats.specs.Shortest.{tens, tenths}

@@ -3,7 +3,7 @@ use Rattle.std.proofs.Common.{ℕ, ◌≡◌, ◌+◌, ◌-◌, ◌*◌, ◌/◌
 use Rattle.std.proofs.Math.Nat.{mul-lt-mul_of_pos_right, pow-le-pow_right}
 use Rattle.std.proofs.lemmas.Nat.{mod_below, mul-le, mul-pow, pow-add}
 use Rattle.std.proofs.lemmas.Bool.{cases_lt}
-use lib.IntN.{ℤ, pos, negsuc}
+use lib.IntN.{ℤ}
 use Rattle.capnp_floats.specs.declared.digits.Digits.{Digits}
 use Rattle.capnp_floats.specs.declared.width.Width.{Width}
 use Rattle.capnp_floats.specs.declared.width.Width.TheVariants.{Float32, Float64}
@@ -11,9 +11,8 @@ use Rattle.capnp_floats.specs.Naturals.{large_room}
 use Rattle.capnp_floats.specs.Shortest.{tens, tenths}
 use Rattle.capnp_floats.specs.Floats.{place, significand}
 use Rattle.capnp_floats.specs.Nearest.{IsNearest, IsPastRange, decimal_numbers, infinity_bits, least_numbers, least_places, twice_last_middle}
-use Rattle.capnp_floats.specs.Steps.Digits.{AreDigits, HoldsDigits, IsCapped}
-use Rattle.capnp_floats.specs.Steps.Nearing.{IsChosen, IsFloor, TakesNearer, twice_middle}
-use Rattle.capnp_floats.proofs.Appending.{holds_whole}
+use Rattle.capnp_floats.specs.Steps.Digits.{AreDigits, HoldsDigits}
+use Rattle.capnp_floats.specs.Steps.Nearing.{IsChosen, twice_middle}
 use Rattle.capnp_floats.proofs.Nearing.{middle_is, numbers_are, only_tenths, power_positive, range_ends, small_is_zero}
 
 -- a number lies on the same side of a boundary as another of another

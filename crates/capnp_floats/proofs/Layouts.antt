@@ -1,28 +1,26 @@
 -- The text of a decimal is the word of a number with the same value.
-use Rattle.std.proofs.Common.{ℕ, zero, suc, ◌≡◌, ◌+◌, ◌-◌, ◌*◌, ◌/◌, ◌%◌, ◌^◌, ◌<◌, ◌≤◌, ◌==◌, ◌&&◌, ◌||◌, ◌⊎◌, ⊎_elim, inl, inr, Bool, true, false, cond, not, ltb, List, [], ◌∷◌, ◌++◌, length, take, drop, get_or, replicate, codes, decimal, Some, None, Ok, refl, sym, ap, ◌∙◌, subst, arith, lit<}
-use Rattle.std.proofs.Math.Nat.{pow-suc}
+use Rattle.std.proofs.Common.{ℕ, zero, suc, ◌≡◌, ◌+◌, ◌-◌, ◌*◌, ◌^◌, ◌<◌, ◌≤◌, ◌==◌, ◌||◌, ◌⊎◌, ⊎_elim, inl, inr, Bool, true, false, cond, not, ltb, List, [], ◌∷◌, ◌++◌, length, take, drop, get_or, replicate, codes, decimal, Some, None, Ok, refl, sym, ap, ◌∙◌, subst, arith}
 use Rattle.std.proofs.lemmas.List.{append_assoc, length-append, length-drop, length-replicate, length-take-le, take-append-drop}
-use Rattle.std.proofs.lemmas.Bool.{cases_lt, cond_both, eqb-true, eqb-false, eq-eqb, ne_eqb, ltb-true, ltb-false, lt-ltb, le-ltb}
+use Rattle.std.proofs.lemmas.Bool.{cases_lt, cond_both, eqb-true, eqb-false, ne_eqb, ltb-true, ltb-false, lt-ltb}
 use Rattle.std.proofs.lemmas.Bool.Decides.{nat_tests}
 use Rattle.std.proofs.lemmas.Fmt.{decimal_is_IsNumeral, first_decimal, length-decimal-le}
-use Rattle.std.proofs.lemmas.Str.Parse.{IsNumeralModel, digit_from_value}
+use Rattle.std.proofs.lemmas.Str.Parse.{digit_from_value}
 use Rattle.std.specs.Char.{digit_value, is_ascii_digit}
 use Rattle.std.specs.Fmt.{digits}
 use Rattle.std.specs.Int.{IsInRange}
-use Rattle.std.specs.List.{after_first, before_first}
-use Rattle.std.specs.Str.Parse.{AllDigits, digits_value, digits_value_after}
-use lib.IntN.{ℤ, pos, negsuc}
-use Rattle.capnp_floats.specs.declared.grammar.Expected.{Expected}
+use Rattle.std.specs.List.{after_first}
+use Rattle.std.specs.Str.Parse.{AllDigits, digits_value_after}
+use lib.IntN.{ℤ, pos}
 use Rattle.capnp_floats.specs.declared.grammar.Expected.TheVariants as expected
 use Rattle.capnp_floats.specs.declared.grammar.Kind.TheVariants as kind
 use Rattle.capnp_floats.specs.declared.width.Width.{Width}
 use Rattle.capnp_floats.specs.declared.width.Width.TheVariants.{Float32, Float64}
 use Rattle.capnp_floats.specs.Shortest.{tens, tenths}
-use Rattle.capnp_floats.specs.Layout.{digits_text, is_plain, layout, others_text, plain_text, power_text, scientific_text, sign_text, two_digits_text}
-use Rattle.capnp_floats.specs.Words.{begins_with_minus, digits_among, digits_behind, exponent_by, is_exponent_mark, is_point, kind_of, mark_step, places_of, step_of, with_digit, word_digits, word_exponent}
+use Rattle.capnp_floats.specs.Layout.{is_plain, layout, others_text, plain_text, scientific_text, sign_text, two_digits_text}
+use Rattle.capnp_floats.specs.Words.{begins_with_minus, digits_among, digits_behind, exponent_by, is_exponent_mark, is_point, kind_of, places_of, step_of, with_digit, word_digits, word_exponent}
 use Rattle.capnp_floats.proofs.Appending.{digit_is, minus_down, minus_up, plus_down, plus_up}
 use Rattle.capnp_floats.proofs.Nearing.{only_tenths}
-use Rattle.capnp_floats.proofs.Scanning.{Each, EndsNumber, Stays, after_at, after_none, before_at, before_none, digits_apart, digits_append, each_append, each_as, each_drop, each_replicate, each_take, ends_all, ends_byte, ends_digits, exponent_stays, places_stay, whole_stays, zeros_before, zeros_behind}
+use Rattle.capnp_floats.proofs.Scanning.{Each, EndsNumber, after_at, after_none, before_at, before_none, digits_apart, digits_append, each_append, each_as, each_drop, each_replicate, each_take, ends_all, ends_byte, ends_digits, exponent_stays, places_stay, whole_stays, zeros_before, zeros_behind}
 
 -- ---- digits ----
 

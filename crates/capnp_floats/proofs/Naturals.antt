@@ -1,5 +1,5 @@
 -- Rows of digits to the base 2^32: a loop's step, for each way through a row.
-use Rattle.std.proofs.Common.{◌-◌, Bool, ltb, ◌≢◌, ◌⊎◌, ⊎_elim, lit<, ℕ, zero, suc, ◌≡◌, ◌+◌, ◌*◌, ◌^◌, ◌/◌, ◌%◌, ◌<◌, ◌≤◌, List, [], ◌∷◌, ◌++◌, length, get_or, take, set, sym, ap, ◌∙◌, arith}
+use Rattle.std.proofs.Common.{◌-◌, ltb, ◌≢◌, ⊎_elim, lit<, ℕ, zero, suc, ◌≡◌, ◌+◌, ◌*◌, ◌^◌, ◌/◌, ◌%◌, ◌<◌, ◌≤◌, List, [], ◌∷◌, ◌++◌, length, get_or, take, set, sym, ap, ◌∙◌, arith}
 use Rattle.std.proofs.lemmas.Nat.{pow-add, div-add-mod', pow_pos, mul-le, mod_below}
 use Rattle.std.proofs.lemmas.List.{take_more, take_more_set, length-take-le, get_or-set_other}
 use Rattle.std.proofs.Math.Nat.{pow-le-pow_right}

@@ -1,14 +1,12 @@
 -- Which rows of digits, points and marks are words, and what stands on either side of a mark.
-use Rattle.std.proofs.Common.{ℕ, zero, suc, ◌≡◌, ◌+◌, ◌-◌, ◌*◌, ◌^◌, ◌<◌, ◌≤◌, ◌==◌, ◌&&◌, Bool, true, false, cond, not, List, [], ◌∷◌, ◌++◌, length, take, drop, get_or, replicate, Some, None, Ok, Option, Result, refl, sym, ap, ◌∙◌, subst, arith, lit<}
+use Rattle.std.proofs.Common.{ℕ, zero, suc, ◌≡◌, ◌+◌, ◌*◌, ◌^◌, Bool, true, false, cond, not, List, [], ◌∷◌, ◌++◌, length, take, drop, replicate, Some, None, Ok, refl, sym, ap, ◌∙◌, arith}
 use Rattle.std.proofs.Math.Nat.{pow-suc}
 use Rattle.std.proofs.Math.Seq.{drop-append-add}
-use Rattle.std.proofs.lemmas.List.{append_assoc, append-nil, drop_all, take_at}
-use Rattle.std.proofs.lemmas.Bool.Decides.{nat_tests}
+use Rattle.std.proofs.lemmas.List.{append-nil, drop_all, take_at}
 use Rattle.std.specs.Char.{is_ascii_digit}
 use Rattle.std.specs.List.{after_first, before_first, position_or_len, prefix_len}
 use Rattle.capnp_floats.specs.declared.grammar.Expected.{Expected}
 use Rattle.capnp_floats.specs.declared.grammar.Expected.TheVariants as expected
-use Rattle.capnp_floats.specs.declared.grammar.Kind.{Kind}
 use Rattle.capnp_floats.specs.declared.grammar.Kind.TheVariants as kind
 use Rattle.capnp_floats.specs.Words.{digits_behind, kind_at, mark_step, step_of, then_or, with_digit}
 use Rattle.capnp_floats.proofs.Appending.{no_digit_is}

@@ -1,18 +1,17 @@
 -- The text of a float is read as the bits that it was written of.
-use Rattle.std.proofs.Common.{ℕ, ◌≡◌, ◌+◌, ◌-◌, ◌*◌, ◌/◌, ◌%◌, ◌^◌, ◌<◌, ◌≤◌, ◌==◌, ◌≢◌, ◌⊎◌, ⊎_elim, inl, inr, Bool, true, false, cond, List, [], ◌∷◌, ◌++◌, Option, Result, Ok, Err, codes, MatchResult, refl, sym, ap, ◌∙◌, subst, arith, lit<}
+use Rattle.std.proofs.Common.{ℕ, ◌≡◌, ◌+◌, ◌-◌, ◌*◌, ◌/◌, ◌%◌, ◌^◌, ◌<◌, ◌≤◌, ◌⊎◌, ⊎_elim, inl, inr, Bool, true, false, List, ◌++◌, Result, Ok, Err, codes, refl, sym, ap, ◌∙◌, subst, arith, lit<}
 use Rattle.std.proofs.Math.Nat.{lt_of_mul-lt-mul_right, mul-lt-mul_of_pos_right}
-use Rattle.std.proofs.lemmas.Nat.{mul-le}
 use Rattle.std.proofs.lemmas.Bool.{cases_lt, eq-eqb, ltb-false, ne_eqb, cases_Bool, both_ways}
-use lib.IntN.{ℤ, pos, negsuc}
+use lib.IntN.{ℤ, pos}
 use Rattle.capnp_floats.specs.declared.grammar.Kind.TheVariants as kind
 use Rattle.capnp_floats.specs.declared.width.Width.{Width}
 use Rattle.capnp_floats.specs.declared.width.Width.TheVariants.{Float32, Float64}
 use Rattle.capnp_floats.specs.declared.word.Refusal.{Refusal}
 use Rattle.capnp_floats.specs.Shortest.{Lies, apart_by, in_units, tens, tenths}
 use Rattle.capnp_floats.specs.Floats.{IsDecimalOf, exponent_bits, fraction, fraction_bits, interval_of, is_finite, significand}
-use Rattle.capnp_floats.specs.Layout.{IsFloatText, is_negative, layout, sign_text}
+use Rattle.capnp_floats.specs.Layout.{is_negative, layout, sign_text}
 use Rattle.capnp_floats.specs.Nearest.{IsNearest, IsPastRange, decimal_numbers, far_from, infinity_bits, least_numbers, least_places, twice_last_middle}
-use Rattle.capnp_floats.specs.Words.{IsFloatOf, ReadsAsKind, ReadsDecimal, begins_with_minus, kind_of, nan_bits, with_sign, word_digits, word_exponent}
+use Rattle.capnp_floats.specs.Words.{IsFloatOf, ReadsAsKind, ReadsDecimal, begins_with_minus, kind_of, with_sign, word_digits, word_exponent}
 use Rattle.capnp_floats.specs.Laws.{IsOfWidth, NansAreOne, TextsAreRead, without_sign}
 use Rattle.capnp_floats.proofs.Layouts.{IsSameDecimal, ReadsAs, layout_reads}
 use Rattle.capnp_floats.proofs.Nearing.{power_positive}

@@ -1,6 +1,6 @@
 -- The power raised, the search and its rounding follow from the four scaled naturals, so they find the shortest
 -- decimal of the interval. Its exponent fits 32 bits.
-use Rattle.std.proofs.Common.{rules, subst, sym, w32, ◌∙◌, ap, arith, ◌≡◌, ◌+◌, ◌*◌, ◌^◌, ◌≤◌, false}
+use Rattle.std.proofs.Common.{rules, subst, sym, w32, ◌∙◌, arith, ◌≡◌, ◌*◌, ◌^◌, ◌≤◌, false}
 use Rattle.std.proofs.lemmas.Int.{to_z-of_z}
 use Rattle.capnp_floats.specs.Shortest.{IsShortest, reaches}
 use Rattle.capnp_floats.specs.Steps.Intervals.{interval}

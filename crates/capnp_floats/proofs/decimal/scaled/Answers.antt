@@ -1,5 +1,5 @@
 -- The number fits with its twos and with its tens, also ten thousand times.
-use Rattle.std.proofs.Common.{arith, rules, ap, ◌∙◌, ◌≡◌, ◌*◌, ◌^◌, ◌<◌, ◌≤◌}
+use Rattle.std.proofs.Common.{arith, rules, ap, ◌∙◌, ◌≡◌, ◌*◌, ◌^◌, ◌<◌}
 use Rattle.capnp_floats.specs.Naturals.{room}
 use Rattle.capnp_floats.proofs.Finding.{product_positive, room_for, twos_fit}
 use Rattle.capnp_floats.proofs.decimal.scaled.Goals as goal

@@ -1,8 +1,8 @@
 -- The natural held so far, with the digits among the bytes left behind it, is that of the
 -- digits among all bytes; at the end no bytes are left.
-use Rattle.std.proofs.Common.{arith, refl, sym, ap, subst, get_or, ◌∙◌, ◌≡◌}
+use Rattle.std.proofs.Common.{arith, refl, sym, ap, subst, get_or, ◌∙◌}
 use Rattle.std.proofs.lemmas.List.{drop_all}
-use Rattle.capnp_floats.specs.Words.{digits_among, digits_behind, with_digit}
+use Rattle.capnp_floats.specs.Words.{digits_behind, with_digit}
 use Rattle.capnp_floats.specs.Steps.Digits.{HoldsDigits}
 use Rattle.capnp_floats.proofs.Appending.{next_digit}
 use Rattle.capnp_floats.proofs.digits.digits_of.Goals as goal

@@ -1,8 +1,8 @@
 -- The number so far stands for a natural, exact or capped at 2^120; this, with the digits
 -- among the bytes left behind it, is the natural of all.
-use Rattle.std.proofs.Common.{arith, inl, refl, sym, ap, subst, get_or, ◌∙◌, ◌≡◌, ◌^◌}
+use Rattle.std.proofs.Common.{arith, inl, refl, sym, ap, subst, get_or, ◌∙◌, ◌^◌}
 use Rattle.std.proofs.lemmas.List.{drop_all}
-use Rattle.capnp_floats.specs.Words.{digits_among, digits_behind, with_digit}
+use Rattle.capnp_floats.specs.Words.{digits_behind, with_digit}
 use Rattle.capnp_floats.specs.Steps.Digits.{IsCapped}
 use Rattle.capnp_floats.proofs.Appending.{next_digit}
 use Rattle.capnp_floats.proofs.digits.exponent_of.Goals as goal

@@ -2,7 +2,7 @@
 use Rattle.std.proofs.Common.{arith, rules, ◌≡◌, true, false}
 use Rattle.std.proofs.lemmas.Bool.{not-true, not-false}
 use Rattle.std.specs.Char.{is_ascii_digit}
-use Rattle.capnp_floats.proofs.Appending.{capped_goes_on, capped_same, capped_stays}
+use Rattle.capnp_floats.proofs.Appending.{capped_goes_on, capped_same}
 use Rattle.capnp_floats.proofs.digits.more_exponent.Goals as goal
 
 pub returns-then-not-is_ascii_digit-clause-holds : goal.returns-then-not-is_ascii_digit-clause-holds

@@ -1,8 +1,6 @@
 -- The floor of the decimal in least numbers is the low one of two neighbours, and twice the decimal fits.
 -- Compared with their middle it says which is nearer, and is chosen.
-use Rattle.std.proofs.Common.{arith, subst, ◌*◌, ◌^◌, ◌<◌, ◌≡◌, ◌∙◌, ap}
-use Rattle.capnp_floats.specs.Naturals.{large_room}
-use Rattle.capnp_floats.specs.Nearest.{least_places}
+use Rattle.std.proofs.Common.{subst, ◌*◌, ◌^◌, ◌∙◌, ap}
 use Rattle.capnp_floats.specs.Steps.Nearing.{IsFloor, TakesNearer}
 use Rattle.capnp_floats.proofs.Cutting.{twice_fits}
 use Rattle.capnp_floats.proofs.nearest.chosen.Goals as goal

@@ -1,7 +1,7 @@
 -- Digits beyond 800 with no more tenths than digits cut are past the range; with over 1149 tenths more they are nearest to 0.
 -- Between these, the cut digits choose as all digits do.
-use Rattle.std.proofs.Common.{arith, lit<, ◌+◌, ◌≡◌}
-use Rattle.capnp_floats.specs.Shortest.{tens, tenths}
+use Rattle.std.proofs.Common.{arith, ◌+◌, ◌≡◌}
+use Rattle.capnp_floats.specs.Shortest.{tenths}
 use Rattle.capnp_floats.proofs.Answering.{cut_is_found, cut_is_not}
 use Rattle.capnp_floats.proofs.Cutting.{cut_is_past, cut_is_tiny}
 use Rattle.capnp_floats.proofs.Appending.{capped_is, capped_more}

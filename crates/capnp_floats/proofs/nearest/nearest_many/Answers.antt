@@ -1,7 +1,7 @@
 -- Digits of which none is kept are 0, and with over 400 tens some digit makes them past the range.
 -- Where digits were cut, the tenths alone decide.
-use Rattle.std.proofs.Common.{arith, lit<, ◌≡◌, ◌<◌}
-use Rattle.capnp_floats.specs.Shortest.{tens, tenths}
+use Rattle.std.proofs.Common.{arith, lit<}
+use Rattle.capnp_floats.specs.Shortest.{tens}
 use Rattle.capnp_floats.proofs.Answering.{any_up_found, any_up_past}
 use Rattle.capnp_floats.proofs.Cutting.{some_digits}
 use Rattle.capnp_floats.proofs.Appending.{capped_more, holds_zero}

@@ -1,7 +1,7 @@
 -- Digits that are all kept are the natural in front.
 -- Above 1150 tenths they are nearest to 0; else the number chosen is nearest if it is in range.
 use Rattle.std.proofs.Common.{arith, lit<, subst, sym}
-use Rattle.capnp_floats.specs.Shortest.{tens, tenths}
+use Rattle.capnp_floats.specs.Shortest.{tenths}
 use Rattle.capnp_floats.specs.Nearest.{IsNearest}
 use Rattle.capnp_floats.proofs.Answering.{whole_found, whole_past}
 use Rattle.capnp_floats.proofs.Cutting.{whole_few, whole_is_tiny}

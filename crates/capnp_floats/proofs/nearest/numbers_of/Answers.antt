@@ -1,6 +1,6 @@
 -- Digits below 10^801 fit a large natural with the places doubled, and with up to 400 tens behind
 -- these as well; the product is that of least numbers.
-use Rattle.std.proofs.Common.{arith, subst, sym, ap, ◌∙◌, ◌*◌, ◌^◌, ◌<◌, ◌≡◌}
+use Rattle.std.proofs.Common.{subst, sym, ap, ◌∙◌, ◌*◌, ◌^◌, ◌<◌}
 use Rattle.capnp_floats.specs.Naturals.{large_room}
 use Rattle.capnp_floats.specs.Nearest.{least_places}
 use Rattle.capnp_floats.proofs.Cutting.{digits_fit, digits_fit_once, numbers_are_made}

@@ -1,6 +1,6 @@
 -- Quotient and remainder split the value by its parts, and bits of that place have this quotient as significand; the
 -- remainder then says which of two neighbours is nearer.
-use Rattle.std.proofs.Common.{sym, ap, subst, ◌∙◌, ◌≡◌, ◌+◌, ◌*◌, ◌/◌, ◌%◌, ◌<◌}
+use Rattle.std.proofs.Common.{sym, ap, subst, ◌∙◌, ◌≡◌, ◌+◌, ◌*◌, ◌/◌, ◌<◌}
 use Rattle.std.proofs.lemmas.Nat.{div-add-mod', mod_below}
 use Rattle.capnp_floats.proofs.Significands.{bits_parts, small_chosen}
 use Rattle.capnp_floats.proofs.small.chosen_at.Goals as goal

@@ -1,6 +1,6 @@
 -- At or below the least place the value takes the powers of two, above it the parts do; either way
 -- both sides are those asked, over one common power.
-use Rattle.std.proofs.Common.{refl, arith, ◌≡◌, ◌-◌, ◌*◌, ◌^◌}
+use Rattle.std.proofs.Common.{refl, arith, ◌-◌}
 use Rattle.capnp_floats.specs.Nearest.{least_places}
 use Rattle.capnp_floats.proofs.Significands.{places_below}
 use Rattle.capnp_floats.proofs.small.in_places.Goals as goal

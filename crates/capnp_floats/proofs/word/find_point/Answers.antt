@@ -1,6 +1,6 @@
 -- The walk keeps that no byte before the index is a point; so the one found is the first,
 -- and past all bytes the length is answered.
-use Rattle.std.proofs.Common.{arith, rules, sym, length, get_or, eq-eqb, ◌≡◌, true}
+use Rattle.std.proofs.Common.{arith, sym, length, get_or, eq-eqb, ◌≡◌, true}
 use Rattle.std.proofs.lemmas.List.Sums.{position_or_len_is}
 use Rattle.capnp_floats.specs.Words.{is_point}
 use Rattle.capnp_floats.proofs.word.find_point.Goals as goal

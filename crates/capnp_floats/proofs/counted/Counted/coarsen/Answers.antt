@@ -1,9 +1,9 @@
 -- Each turn counts in units of ten, while a natural of these lies in the interval. Where none does, no multiple of ten did.
-use Rattle.std.proofs.Common.{rules, arith, subst, sym, ap, ◌∙◌, ◌≡◌, ◌<◌, ◌+◌, ◌^◌, true, false}
+use Rattle.std.proofs.Common.{rules, arith, subst, sym, ◌≡◌, ◌+◌, true, false}
 use Rattle.std.proofs.lemmas.Bool.{not-true, not-false}
 use Rattle.capnp_floats.specs.declared.counted.Counted.{Counted}
 use Rattle.capnp_floats.specs.Shortest.{reaches}
-use Rattle.capnp_floats.specs.Steps.Counting.{CountsTens, IsCounted, IsReached, tenfold}
+use Rattle.capnp_floats.specs.Steps.Counting.{CountsTens, IsCounted, tenfold}
 use Rattle.capnp_floats.proofs.Counting.{counts_none, counts_more, none_coarser, tenfold_counted}
 use Rattle.capnp_floats.proofs.counted.Counted.coarsen.Goals as goal
 

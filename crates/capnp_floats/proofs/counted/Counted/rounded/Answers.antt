@@ -1,8 +1,7 @@
 -- Where one bound alone lies in the interval, it is the answer.
 -- Where both do, the rest and what is left of one say which is nearer, and on a tie the even one is taken.
-use Rattle.std.proofs.Common.{arith, rules, ◌+◌, ◌≡◌, ◌≤◌, ◌<◌, true, false}
+use Rattle.std.proofs.Common.{arith, rules}
 use Rattle.std.proofs.lemmas.Bool.{not-true, not-false}
-use Rattle.capnp_floats.specs.Shortest.{reaches}
 use Rattle.capnp_floats.proofs.Counting.{floor_alone, floor_nearer, ceiling_alone, ceiling_nearer, even_nearest}
 use Rattle.capnp_floats.proofs.counted.Counted.rounded.Goals as goal
 
