@@ -18,16 +18,23 @@ ghost use Rattle.riftcalico_core.specs.CallsSeen.{all_seen, given_source, read_a
 ghost use Rattle.riftcalico_core.specs.Reads.{each_word_read};
 
 use crate::words::word_at;
+use capnp_arena::arena::Arena;
 use capnp_base::introspect::{Type, TypeVariant};
 use capnp_call::calls::{Call, Op, Step};
+use capnp_dynamic_readers::dynamic_list;
 use capnp_dynamic_readers::dynamic_value::Reader as Value;
 use capnp_edit_calls::acts::Act;
 use capnp_edit_calls::change::Change;
 use capnp_edit_calls::copy::PathCopy;
 use capnp_edit_calls::edit::ListEdit;
+use capnp_from_json::error::Error as TextError;
+use capnp_json_messages::row::Row;
+use capnp_json_messages::value::read_one;
 use capnp_queries::floats::has_floats_at;
 use capnp_schema::schema::StructSchema;
-use capnp_wire::error::Result;
+use capnp_schema::set::SchemaSet;
+use capnp_splices::read::read_list;
+use capnp_wire::error::{Error, ErrorKind, Result};
 use capnp_words::call::{CallWord, WordOp, parse_call};
 use capnp_words::marked::parse_marked_value;
 use capnp_words::path::{Path, PathStep, Read as WordRead};
@@ -45,13 +52,30 @@ pub struct Unreadable {
 /// What words are read as, or where they can't be.
 pub type Read<T> = std::result::Result<T, Unreadable>;
 
+/// A value of a type as the element of a list, in a message of its own.
+#[derive(Drop)]
+pub struct WholeValue<'s> {
+    list: Arena,
+    element: Type,
+    schemas: &'s SchemaSet,
+}
+
+/// What a call or an edit is given.
+#[derive(Drop)]
+pub enum GivenValue<'s> {
+    /// A value that has a word.
+    Plain(PlainValue<'s>),
+    /// A struct or list, of a JSON text.
+    Whole(WholeValue<'s>),
+}
+
 /// A call or an edit that was read under a schema: what its word says, the steps of its path, the value that it is given, and
 /// the steps of the path of what it copies.
 #[derive(Drop)]
 pub struct ReadCall<'s, 'c> {
     pub word: &'c CallWord,
     pub steps: Vec<Step<'c>>,
-    pub value: PlainValue<'s>,
+    pub value: GivenValue<'s>,
     pub from: Vec<Step<'c>>,
 }
 
@@ -117,6 +141,59 @@ pub(crate) fn find_given_type(schema: StructSchema<'_>, call: &CallWord) -> Opti
     }
 }
 
+/// The element of a list of one.
+fn find_whole<'a>(whole: &'a WholeValue<'_>) -> Result<Value<'a>> {
+    let list = read_list(&whole.list)?;
+    dynamic_list::Reader::new(list, whole.element, whole.schemas).get(0)
+}
+
+/// A struct or list by its JSON text, or the place in its word where it can't be read.
+fn read_whole<'s>(
+    alloc: Global,
+    schemas: &'s SchemaSet,
+    target: Type,
+    floats: bool,
+    value: &[u8],
+    place: usize,
+) -> Result<std::result::Result<GivenValue<'s>, u128>> {
+    let row = Row {
+        schemas,
+        element: target,
+        is_float: floats,
+    };
+    let list = match read_one(alloc, row, value, true) {
+        Ok(list) => list,
+        Err(TextError::Refused(refusal)) => {
+            return Ok(Err(place as u128 + refusal.place as u128));
+        }
+        Err(_) => return Err(Error::from(ErrorKind::OutOfMemory)),
+    };
+    let whole = WholeValue {
+        list,
+        element: target,
+        schemas,
+    };
+    if find_whole(&whole).is_err() {
+        return Ok(Err(place as u128));
+    }
+    Ok(Ok(GivenValue::Whole(whole)))
+}
+
+/// A value that is no struct and no list, or the place in its word where it can't be read.
+fn read_plain<'s>(
+    alloc: Global,
+    schemas: &'s SchemaSet,
+    target: Type,
+    floats: bool,
+    value: &[u8],
+    place: usize,
+) -> Result<std::result::Result<GivenValue<'s>, u128>> {
+    match parse_marked_value(alloc, schemas, target, floats, value)? {
+        Ok(value) => Ok(Ok(GivenValue::Plain(value))),
+        Err(inner) => Ok(Err(place as u128 + inner as u128)),
+    }
+}
+
 /// A value under its type, whose numbers are floats or not, or the place in its word where it can't be read. A void where
 /// there is no type.
 fn read_given_value<'s>(
@@ -126,18 +203,16 @@ fn read_given_value<'s>(
     floats: bool,
     value: &[u8],
     place: usize,
-) -> Result<std::result::Result<PlainValue<'s>, u128>>
-    requires { IsStruct schema }
-    ensures read { IfOk result (λ r. read_as word_value_source r
-        ≡ source_read (set_of schema.entry) floats (option_map seen_type target) value.now place) }
-    ensures memory { IfErr result (λ e. e.kind ≡ OutOfMemory) }
-{
+) -> Result<std::result::Result<GivenValue<'s>, u128>> {
     let Some(target) = target else {
-        return Ok(Ok(PlainValue::Void));
+        return Ok(Ok(GivenValue::Plain(PlainValue::Void)));
     };
-    match parse_marked_value(alloc, schema.get_set(), target, floats, value)? {
-        Ok(value) => Ok(Ok(value)),
-        Err(inner) => Ok(Err(place as u128 + inner as u128)),
+    let schemas = schema.get_set();
+    match target.which() {
+        TypeVariant::Struct(_) | TypeVariant::List(_) => {
+            read_whole(alloc, schemas, target, floats, value, place)
+        }
+        _ => read_plain(alloc, schemas, target, floats, value, place),
     }
 }
 
@@ -149,7 +224,7 @@ fn read_value<'s>(
     op: &WordOp,
     target: Option<Type>,
     floats: bool,
-) -> Result<std::result::Result<PlainValue<'s>, u128>>
+) -> Result<std::result::Result<GivenValue<'s>, u128>>
     requires { IsStruct schema }
     ensures read { IfOk result (λ r. read_as word_value_source r
         ≡ source_given (set_of schema.entry) floats (option_map seen_type target) (said.op_text_seen op.now)) }
@@ -169,7 +244,7 @@ fn read_value<'s>(
         | WordOp::Clear
         | WordOp::Remove(_)
         | WordOp::Resize(_)
-        | WordOp::Copy(_) => Ok(Ok(PlainValue::Void)),
+        | WordOp::Copy(_) => Ok(Ok(GivenValue::Plain(PlainValue::Void))),
     }
 }
 
@@ -275,10 +350,13 @@ pub fn read_all_calls<'s, 'c>(
 
 /// A value as a call is given it.
 #[tactic(auto, using(crate::proofs::PlainGiven::plain_given))]
-fn value_of<'c>(value: &'c PlainValue<'_>) -> Value<'c>
+fn value_of<'c>(value: &'c GivenValue<'_>) -> Result<Value<'c>>
     ensures { source_of result ≡ word_value_source value.now }
 {
-    value.as_reader()
+    match value {
+        GivenValue::Plain(plain) => Ok(plain.as_reader()),
+        GivenValue::Whole(whole) => find_whole(whole),
+    }
 }
 
 /// The value of each call and edit, as it is given. Refused with `OutOfMemory` alone.
@@ -288,7 +366,7 @@ pub fn make_values<'a>(alloc: Global, read: &'a [ReadCall<'_, '_>]) -> Result<Ve
 {
     let mut values = Vec::with_capacity(alloc, read.len())?;
     for call in read {
-        values.push(value_of(&call.value))?;
+        values.push(value_of(&call.value)?)?;
     }
     Ok(values)
 }
