@@ -14,9 +14,10 @@ use Rattle.capnp_slots.specs.Fields.{IsRoomFor, field_brand, field_set}
 use Rattle.capnp_json_text.specs.Faults.{fault_of}
 use Rattle.capnp_json_text.specs.Laws.{StandsInSteps}
 use Rattle.capnp_json_text.specs.Readings.{after_blanks}
-use Rattle.capnp_json_text.specs.Values.{json_at}
+use Rattle.capnp_json_text.specs.Values.{json_at, json_value}
 use Rattle.capnp_from_json.specs.Errors.{IsErrorOf, refused}
-use Rattle.capnp_from_json.specs.Records.{Rules, all_levels, field_target}
+use Rattle.capnp_from_json.specs.Leaves.{Target}
+use Rattle.capnp_from_json.specs.Records.{Rules, all_levels, field_target, value_of_json}
 use Rattle.capnp_from_json.specs.declared.error.Error.{Error}
 use Rattle.capnp_from_json.specs.declared.error.RefusalKind.TheVariants.{NotJson}
 use Rattle.capnp_from_json.specs.declared.reading.Reading.{Reading}
@@ -27,16 +28,23 @@ use Rattle.capnp_json_messages.specs.Walks.{AreRules, FieldRead, IsRefused, fiel
 use Rattle.capnp_json_messages.proofs.NewLists.{new_record, new_room}
 
 -- the value of a text, by the value with which it begins behind blanks
+pub in_root_is : StandsInSteps → (t : Target) (text : List ℕ) (rules : Rules) (reading : Reading) (bytes : List ℕ) → fault_of text ≡ None → reading.whole ≡ length text → bytes ≡ after_blanks text
+    → value_in_root rules t (json_value text) ≡ value_of_json rules (json_at reading.whole bytes) (all_levels - 1) t
+in_root_is steps t text rules reading bytes none is behind =
+    ap (value_in_root rules t) (steps.texts text none)
+    ∙ (ap (λ n. value_in_root rules t (Ok (json_at n (after_blanks text)))) (sym is)
+    ∙ ap (λ (bs : List ℕ). value_in_root rules t (Ok (json_at reading.whole bs))) (sym behind))
+
 pub value_is : StandsInSteps → (f : Field) (text : List ℕ) (rules : Rules) (reading : Reading) (bytes : List ℕ) → fault_of text ≡ None → reading.whole ≡ length text → bytes ≡ after_blanks text
     → text_value f text rules ≡ field_json reading (all_levels - 1) f bytes rules
-value_is steps f text rules reading bytes none is behind =
-    ap (value_in_root rules (field_target (typed_of f))) (steps.texts text none)
-    ∙ (ap (λ n. value_in_root rules (field_target (typed_of f)) (Ok (json_at n (after_blanks text)))) (sym is)
-    ∙ ap (λ (bs : List ℕ). value_in_root rules (field_target (typed_of f)) (Ok (json_at reading.whole bs))) (sym behind))
+value_is steps f = in_root_is steps (field_target (typed_of f))
 
 -- one that is no text
+pub none_in_root : StandsInSteps → (t : Target) (text : List ℕ) (rules : Rules) (place : ℕ) → fault_of text ≡ Some place → value_in_root rules t (json_value text) ≡ refused NotJson place
+none_in_root steps t text rules place fault = ap (value_in_root rules t) (steps.refused text place fault)
+
 pub no_value : StandsInSteps → (f : Field) (text : List ℕ) (rules : Rules) (place : ℕ) → fault_of text ≡ Some place → text_value f text rules ≡ refused NotJson place
-no_value steps f text rules place fault = ap (value_in_root rules (field_target (typed_of f))) (steps.refused text place fault)
+no_value steps f = none_in_root steps (field_target (typed_of f))
 
 module _ (f : Field) (strict : Bool) (text : List ℕ) (reading : Reading) (bytes : List ℕ) (told : (rules : Rules) → text_value f text rules ≡ field_json reading (all_levels - 1) f bytes rules) where
   pub holder_read : (s s' : StructTree) (t : Tree) → s ≡ new_struct (field_schema f) → t ≡ struct_tree s' → IsWellFormed t

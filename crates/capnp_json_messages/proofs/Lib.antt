@@ -18,3 +18,4 @@ pub mod Frames
 pub mod DataBack
 pub mod IntegersBack
 pub mod HolderReads
+pub mod OneReads

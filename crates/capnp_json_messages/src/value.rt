@@ -1,17 +1,21 @@
-//! Values of fields by their JSON texts, each in a message of its own.
+//! Values by their JSON texts, each in a message of its own: those of fields, and those of a type.
 ghost use Rattle.std.specs.Prelude.{None, ◌≡◌, ◌≤◌, length, IfErr, IfOk};
 ghost use Rattle.capnp_arena.specs.Message.{IsMessage, message_tree};
 ghost use Rattle.capnp_arena.specs.Segment.{segment};
 ghost use Rattle.capnp_arena.specs.Shape.{word_count};
 ghost use Rattle.capnp_json_text.specs.Faults.{fault_of};
-ghost use Rattle.capnp_json_messages.specs.Holders.{IsHolderOf, text_value};
+ghost use Rattle.capnp_json_messages.specs.Holders.{IsHolderOf, IsOneOf, text_element, text_value};
+ghost use Rattle.capnp_json_messages.specs.Rows.{IsRow, row_set, row_type};
 ghost use Rattle.capnp_json_messages.specs.Messages.{most_words};
 ghost use Rattle.capnp_json_messages.specs.Walks.{IsRefused};
 ghost use Rattle.capnp_slots.specs.Fields.{field_set};
 
 use crate::message::{keep_within, start_root};
-use crate::walk::read_field;
+use crate::row::Row;
+use crate::walk::{read_element, read_field};
+use capnp_arena::arena::Arena;
 use capnp_arena::message::Builder;
+use capnp_edits::added::new_elements;
 use capnp_from_json::error::{Error, RefusalKind};
 use capnp_from_json::reading::{Reading, refused};
 use capnp_json_text::faults::first_fault;
@@ -90,4 +94,58 @@ pub fn read_value_within(
         strict,
     };
     read_text(reading, limit, field, text)
+}
+
+/// Reads bytes that are a JSON text into the element of a new list of one.
+fn read_into_one(reading: Reading, row: Row<'_>, text: &[u8]) -> Result<Arena, Error>
+    requires row { IsRow row }
+    requires is_text { fault_of text.now ≡ None }
+    requires whole { reading.whole ≡ length text.now }
+    ensures message { IfOk result IsMessage }
+    ensures one { IfOk result (λ m. IsOneOf row.entry reading.strict text.now (message_tree m)) }
+    ensures refused { IfErr result (IsRefused (row_set row.entry) reading.strict (text_element (row_type row.entry) row.entry.is_float text.now)) }
+{
+    values_stand_in_steps();
+    let mut made = match new_elements(reading.alloc, row.schemas, row.element, 1) {
+        Ok(made) => made,
+        Err(_memory) => return Err(Error::OutOfMemory),
+    };
+    // a message has 64 levels, of which the list takes one
+    match read_element(&mut made, reading, 0, row, 63, 0, skip_blanks(text)) {
+        Ok(()) => {}
+        Err(error) => return Err(error),
+    }
+    made.tree_is_sound(0);
+    Ok(made)
+}
+
+/// Reads a JSON text as a value of a type, into a new message: its root is a list of one element, which is that value.
+/// `dynamic_list::Reader::get` takes it out there. With `strict` a name that a struct lacks is refused; else it is passed over
+/// with its value.
+///
+/// Refused as `read_value_within`, but for a limit.
+///
+/// # Conditions
+///
+/// The type names entries of the set (`IsRow`). Where numbers are floats, its base is UInt32 or UInt64.
+pub fn read_one(alloc: Global, row: Row<'_>, text: &[u8], strict: bool) -> Result<Arena, Error>
+    requires { IsRow row }
+    ensures message { IfOk result IsMessage }
+    ensures one { IfOk result (λ m. IsOneOf row.entry strict text.now (message_tree m)) }
+    ensures refused { IfErr result (IsRefused (row_set row.entry) strict (text_element (row_type row.entry) row.entry.is_float text.now)) }
+{
+    values_stand_in_steps();
+    let fault = match first_fault(alloc, text) {
+        Ok(fault) => fault,
+        Err(_memory) => return Err(Error::OutOfMemory),
+    };
+    if let Some(place) = fault {
+        return Err(refused(RefusalKind::NotJson, place));
+    }
+    let reading = Reading {
+        alloc,
+        whole: text.len(),
+        strict,
+    };
+    read_into_one(reading, row, text)
 }

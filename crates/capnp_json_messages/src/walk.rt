@@ -349,7 +349,7 @@ fn read_elements(
 
 /// Reads the value with which bytes begin into an element of a new list, with so many levels.
 #[cycle(walk)]
-fn read_element(
+pub(crate) fn read_element(
     arena: &mut Arena,
     reading: Reading,
     word: usize,
