@@ -1,5 +1,8 @@
+pub mod Added
+pub mod Behind
 pub mod Equal
 pub mod Leads
 pub mod Rows
 pub mod Steps
 pub mod Walked
+pub mod Whole

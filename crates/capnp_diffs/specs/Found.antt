@@ -1,0 +1,152 @@
+-- What changes that were found stand for, and how a walk adds them.
+use Rattle.std.specs.Prelude.{ℕ, ◌≡◌, ⊤, List, [], ◌∷◌, ◌++◌, map}
+use Rattle.capnp_wire.specs.Reading.{list_length}
+use Rattle.capnp_wire.specs.Standing.{list_of, struct_of}
+use Rattle.capnp_wire.specs.declared.list_reader.ListReader.{ListReader}
+use Rattle.capnp_wire.specs.declared.struct_reader.StructReader.{StructReader}
+use Rattle.capnp_schema.specs.Enums.{enum_number}
+use Rattle.capnp_schema.specs.Schema.{Schemas, TypedField}
+use Rattle.capnp_schema.specs.StructHandles.{number_of, set_of}
+use Rattle.capnp_schema.specs.Types.{AnyPointerType, BoolType, DataType, EnumType, IntType, ListType, SchemaType, TextType, UIntType, VoidType}
+use Rattle.capnp_records.specs.Call.{Call, FieldNumber, PathStep}
+use Rattle.capnp_records.specs.Facts.ListValues.{below_of}
+use Rattle.capnp_records.specs.Reading.{element_value, elements_value, part_of, reads, values_of}
+use Rattle.capnp_records.specs.Record as value
+use Rattle.capnp_records.specs.Record.{Endless, Parts, Record, Union, Value, Values, values_from}
+use Rattle.capnp_dynamic_readers.specs.Handles.{element_of, enum_of, list_reader_of, list_set, reader_of, schema_of}
+use Rattle.capnp_dynamic_readers.specs.Seen.{value_seen}
+use Rattle.capnp_dynamic_readers.specs.Typed.{struct_type}
+use Rattle.capnp_dynamic_readers.specs.declared.dynamic_value.Reader.{Reader as DynamicValue}
+use Rattle.capnp_dynamic_readers.specs.declared.dynamic_value.Reader.TheVariants as dynamic
+use Rattle.capnp_diffs.specs.Changes.{AreFieldsTold, ByKind, Change, Clears, Goal, Inits, IsGroupTold, IsLeafTold, IsRecordTold, IsRowTold, IsSwitchTold, IsTold, IsUnionTold, Puts, field_changes, record_changes, row_changes, switch_changes, union_changes, value_changes}
+use Rattle.capnp_diffs.specs.Laws.{Brings}
+use Rattle.capnp_call.specs.Seen.{op_seen, path_seen, step_seen}
+use Rattle.capnp_slots.specs.SetValues.{source_of}
+use Rattle.capnp_call.specs.declared.calls.Op.{Op}
+use Rattle.capnp_call.specs.declared.calls.Op.TheVariants as op
+use Rattle.capnp_call.specs.declared.calls.Step.{Step}
+use Rattle.capnp_diffs.specs.declared.change.Change.{Change as FoundChange}
+
+-- ---- one change ----
+
+-- the type of a value, by its variant and handles
+abbrev pub type_held : DynamicValue → SchemaType
+type_held dynamic.Void = VoidType
+type_held (dynamic.Bool b) = BoolType
+type_held (dynamic.Int8 x) = IntType 1
+type_held (dynamic.Int16 x) = IntType 2
+type_held (dynamic.Int32 x) = IntType 4
+type_held (dynamic.Int64 x) = IntType 8
+type_held (dynamic.UInt8 x) = UIntType 1
+type_held (dynamic.UInt16 x) = UIntType 2
+type_held (dynamic.UInt32 x) = UIntType 4
+type_held (dynamic.UInt64 x) = UIntType 8
+type_held (dynamic.Enum e) = EnumType (enum_number (enum_of e))
+type_held (dynamic.Text t) = TextType
+type_held (dynamic.«Data» bytes) = DataType
+type_held (dynamic.Struct s) = struct_type (schema_of s)
+type_held (dynamic.List l) = ListType (element_of l)
+type_held (dynamic.AnyPointer p) = AnyPointerType
+
+-- the whole value that a copy of it has
+abbrev pub whole_seen : DynamicValue → Value
+whole_seen (dynamic.Struct s) = value.Struct (reads (set_of (schema_of s)) (struct_of (reader_of s)) (number_of (schema_of s)))
+whole_seen (dynamic.List l) = elements_value (list_set l) (list_of (list_reader_of l)) (below_of (list_set l) (list_of (list_reader_of l))) Endless (element_of l)
+whole_seen v = value_seen v
+
+abbrev pub goal_seen : Op → Goal
+goal_seen (op.Set v) = Puts (type_held v) (whole_seen v)
+goal_seen op.Init = Inits
+goal_seen o = Clears
+
+-- an operation that makes its goal
+abbrev pub IsReady : Schemas → Op → Type 0
+IsReady set (op.Set v) = Brings set (type_held v) (source_of v) (whole_seen v)
+IsReady set op.Init = ⊤
+IsReady set op.Clear = ⊤
+IsReady set o = ⊥
+
+abbrev pub change_seen : FoundChange → Change
+change_seen c = record { path = path_seen c.path.items; last = step_seen c.last; goal = goal_seen c.op }
+
+-- the call that makes it
+abbrev pub change_call : FoundChange → Call
+change_call c = record { path = path_seen c.path.items; last = step_seen c.last; op = op_seen c.op }
+
+abbrev pub changes_seen : List FoundChange → List Change
+changes_seen cs = map change_seen cs
+
+abbrev pub AreReady : Schemas → List FoundChange → Type 0
+AreReady set [] = ⊤
+AreReady set (c ∷ cs) = IsReady set c.op × AreReady set cs
+
+-- ---- changes that are added ----
+
+-- the same at the end of a path
+abbrev pub within : List PathStep → Change → Change
+within path c = record { path = path ++ c.path; last = c.last; goal = c.goal }
+
+abbrev pub all_within : List PathStep → List Change → List Change
+all_within path cs = map (within path) cs
+
+-- these changes, at the end of a path, come behind those that were found before
+pub record Adds (set : Schemas) (path : List Step) (old new : List FoundChange) (changes : List Change) : Type 0 where
+  pub found : changes_seen new ≡ changes_seen old ++ all_within (path_seen path) changes
+  pub ready : AreReady set old → AreReady set new
+
+-- one change of what a step names
+abbrev pub one_change : Step → Goal → List Change
+one_change step goal = record { path = []; last = step_seen step; goal = goal } ∷ []
+
+-- the changes of a value of a type, which can be told
+pub record IsFoundAt (set : Schemas) (step : Step) (t : SchemaType) (v w : Value) (path : List Step) (old new : List FoundChange) : Type 0 where
+  pub adds : Adds set path old new (value_changes set (step_seen step) t v w)
+  pub told : IsTold set t v w
+
+-- ---- records ----
+
+-- the record of a struct that is read, whole
+unfoldable pub whole_record : Schemas → StructReader → ℕ → Record
+whole_record set r b = reads set (struct_of r) b
+
+-- what a field has of it
+unfoldable pub whole_part : Schemas → StructReader → TypedField → Value
+whole_part set r f = part_of set Endless (struct_of r).bytes (values_of set (struct_of r).pointers) f
+
+-- the changes of a record, which can be told
+pub record IsRecordFound (set : Schemas) (b : ℕ) (r q : Record) (path : List Step) (old new : List FoundChange) : Type 0 where
+  pub adds : Adds set path old new (record_changes set b r q)
+  pub told : IsRecordTold set b r q
+
+-- of a field that stands on both sides
+pub record IsPartFound (set : Schemas) (f : TypedField) (i : ℕ) (v w : Value) (path : List Step) (old new : List FoundChange) : Type 0 where
+  pub adds : Adds set path old new (value_changes set (FieldNumber i) f.type v w)
+  pub told : ByKind f.field.kind (IsTold set f.type v w) (IsGroupTold set f.type v w)
+
+-- of its non-union fields, of its union, and of a member that becomes active
+abbrev pub fields_held : Record → Values
+fields_held (Parts vs u) = vs
+
+abbrev pub union_held : Record → Union
+union_held (Parts vs u) = u
+
+pub record AreFieldsFound (set : Schemas) (b : ℕ) (r q : Record) (path : List Step) (old new : List FoundChange) : Type 0 where
+  pub adds : Adds set path old new (field_changes set b 0 (fields_held r) (fields_held q))
+  pub told : AreFieldsTold set b 0 (fields_held r) (fields_held q)
+
+pub record IsUnionFound (set : Schemas) (b : ℕ) (r q : Record) (path : List Step) (old new : List FoundChange) : Type 0 where
+  pub adds : Adds set path old new (union_changes set b (union_held r) (union_held q))
+  pub told : IsUnionTold set b (union_held r) (union_held q)
+
+pub record IsSwitchFound (set : Schemas) (f : TypedField) (i : ℕ) (w : Value) (path : List Step) (old new : List FoundChange) : Type 0 where
+  pub adds : Adds set path old new (switch_changes set i f.type w)
+  pub told : ByKind f.field.kind (IsLeafTold f.type value.Elsewhere w) (IsSwitchTold set f.type w)
+
+-- the elements of a list that is read, whole
+unfoldable pub elements_in : Schemas → ListReader → SchemaType → Values
+elements_in set l e = values_from (element_value set (list_of l) (below_of set (list_of l)) Endless e) 0 (list_length (list_of l))
+
+-- of elements from an index on
+pub record IsRowFound (set : Schemas) (e : SchemaType) (i : ℕ) (vs ws : Values) (path : List Step) (old new : List FoundChange) : Type 0 where
+  pub adds : Adds set path old new (row_changes set e i vs ws)
+  pub told : IsRowTold set e vs ws
