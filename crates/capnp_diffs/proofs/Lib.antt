@@ -1,8 +1,15 @@
 pub mod Added
+pub mod Alike
 pub mod Behind
+pub mod BothSides
 pub mod Equal
+pub mod Falls
+pub mod LayersFound
 pub mod Leads
+pub mod NumbersFound
 pub mod Rows
+pub mod RowsFound
 pub mod Steps
+pub mod TypeLayers
 pub mod Walked
 pub mod Whole
