@@ -1,16 +1,19 @@
 -- What is found where structs or lists stand behind two pointers, or nothing does.
-use Rattle.std.proofs.Common.{ℕ, ◌≡◌, refl, [], ◌∷◌, ◌++◌, List, Bool, true, false, ◌==◌, Option, Some, None, ap, ap₂, sym, subst, ◌∙◌}
+use Rattle.std.proofs.Common.{ℕ, suc, ◌-◌, ◌≡◌, refl, [], ◌∷◌, ◌++◌, List, length, take, Bool, true, false, ◌==◌, Some, None, arith, ap, ap₂, sym, subst, ◌∙◌}
 use Rattle.capnp_wire.specs.Reading.{list_length}
 use Rattle.capnp_wire.specs.Standing.{list_of, struct_of}
 use Rattle.capnp_wire.specs.declared.list_reader.ListReader.{ListReader}
 use Rattle.capnp_wire.specs.declared.struct_reader.StructReader.{StructReader}
 use Rattle.capnp_schema.specs.Schema.{Schemas}
+use Rattle.capnp_schema.specs.StructHandles.{set_of}
 use Rattle.capnp_schema.specs.Types.{ListType, SchemaType, StructType}
+use Rattle.capnp_schema.specs.declared.schema.structs.StructSchema.{StructSchema}
 use Rattle.capnp_records.specs.Facts.ListValues.{below_of, count_values_from}
 use Rattle.capnp_records.specs.Part.{value_count}
 use Rattle.capnp_records.specs.Reading.{element_value, reads}
 use Rattle.capnp_records.specs.Record as value
 use Rattle.capnp_records.specs.Record.{Endless, Value, Values}
+use Rattle.capnp_dynamic_readers.specs.Typed.{struct_type}
 use Rattle.capnp_call.specs.Seen.{path_seen, step_seen}
 use Rattle.capnp_call.specs.declared.calls.Step.{Step}
 use Rattle.capnp_diffs.specs.Changes.{Change, Clears, IsRowTold, OnlyIf, list_changes, row_changes, whole_change}
@@ -18,6 +21,34 @@ use Rattle.capnp_diffs.specs.Found.{Adds, IsFoundAt, IsRecordFound, IsRowFound, 
 use Rattle.capnp_diffs.specs.Leaves.{list_value, struct_value}
 use Rattle.capnp_diffs.specs.declared.change.Change.{Change as FoundChange}
 use Rattle.capnp_diffs.proofs.Added.{adds_behind, adds_none}
+
+-- what is added at a path is added at the same one
+pub at_path : (set : Schemas) (p q : List Step) (old new : List FoundChange) (cs : List Change) → p ≡ q → Adds set p old new cs → Adds set q old new cs
+at_path set p q old new cs is adds = subst (λ r. Adds set r old new cs) is adds
+
+pub found_path : (set : Schemas) (step : Step) (t : SchemaType) (v w : Value) (p q : List Step) (old new : List FoundChange) → p ≡ q → IsFoundAt set step t v w p old new → IsFoundAt set step t v w q old new
+found_path set step t v w p q old new is found = subst (λ r. IsFoundAt set step t v w r old new) is found
+
+pub no_items : {A : Type 0} (xs : List A) → length xs ≡ 0 → xs ≡ []
+no_items [] h = refl
+no_items (x ∷ xs) h = absurd (omega (arith, h))
+
+-- a path without the step that was added last
+pub path_left : {A : Type 0} (xs ys zs : List A) (x : A) → ys ≡ (xs ++ x ∷ []) → zs ≡ take (length ys - 1) ys → zs ≡ xs
+path_left {A = A} xs ys zs x e is = is ∙ (ap (λ us. take (length us - 1) us) e ∙ without_last xs)
+  where
+    count : (us : List A) (u : A) → length (us ++ u ∷ []) ≡ suc (length us)
+    count [] u = refl
+    count (v ∷ us) u = ap suc (count us u)
+
+    take_all : (us : List A) (u : A) → take (length us) (us ++ u ∷ []) ≡ us
+    take_all [] u = refl
+    take_all (v ∷ us) u = ap (λ ws. v ∷ ws) (take_all us u)
+
+    without_last : (us : List A) → take (length (us ++ x ∷ []) - 1) (us ++ x ∷ []) ≡ us
+    without_last us =
+        let fewer : length (us ++ x ∷ []) - 1 ≡ length us = omega (arith, count us x) in
+        ap (λ n. take n (us ++ x ∷ [])) fewer ∙ take_all us x
 
 module _ (set : Schemas) (step : Step) (path : List Step) (old new : List FoundChange) where
   -- the same of other values
@@ -132,6 +163,13 @@ module _ (set : Schemas) (step : Step) (path : List Step) (old : List FoundChang
   others_same same none told =
       by_length set step path old old e l m true (same_test set step path old old e l m same)
       (subst (Adds set path old old) (sym (ap (list_changes (step_seen step) e (elements_in set m e) true) none ∙ unchanged step e (elements_in set m e))) (adds_none set path old)) told
+
+-- the elements of a list of structs, by their schema
+pub rows_of_schema : (set : Schemas) (schema : StructSchema) (e : SchemaType) (l m : ListReader) (inner : List Step) (old new : List FoundChange) → set_of schema ≡ set → struct_type schema ≡ e →
+    IsRowFound (set_of schema) (struct_type schema) 0 (elements_in (set_of schema) l (struct_type schema)) (elements_in (set_of schema) m (struct_type schema)) inner old new → IsRowFound set e 0 (elements_in set l e) (elements_in set m e) inner old new
+rows_of_schema set schema e l m inner old new at_set is found =
+    subst (λ t. IsRowFound set t 0 (elements_in set l t) (elements_in set m t) inner old new) is
+    (subst (λ s. IsRowFound s (struct_type schema) 0 (elements_in s l (struct_type schema)) (elements_in s m (struct_type schema)) inner old new) at_set found)
 
 -- ---- the changes of elements that were found alone ----
 
