@@ -1,8 +1,13 @@
 pub mod Added
 pub mod Behind
 pub mod Equal
+pub mod Falls
+pub mod FieldRows
 pub mod Leads
+pub mod Parts
 pub mod Rows
+pub mod Slots
 pub mod Steps
+pub mod Unions
 pub mod Walked
 pub mod Whole
