@@ -5,6 +5,7 @@ pub mod Falls
 pub mod FieldRows
 pub mod Leads
 pub mod Parts
+pub mod Roots
 pub mod Rows
 pub mod Slots
 pub mod Steps

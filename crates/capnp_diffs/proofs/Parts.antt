@@ -1,6 +1,6 @@
 -- A field that stands on both sides, and a member that becomes active: behind a pointer, a group, or a number.
 use Rattle.std.specs.Prelude.{option_to_list}
-use Rattle.std.proofs.Common.{ℕ, zero, suc, ◌<◌, ◌-◌, ◌+◌, ◌≡◌, ◌∙◌, refl, [], ◌∷◌, ◌++◌, List, length, take, Bool, true, false, Option, Some, None, arith, ap, ap₂, sym, subst}
+use Rattle.std.proofs.Common.{ℕ, zero, suc, ◌<◌, ◌≤◌, ◌-◌, ◌+◌, ◌≡◌, ◌∙◌, refl, [], ◌∷◌, ◌++◌, List, length, take, Bool, true, false, Option, Some, None, arith, ap, ap₂, sym, subst}
 use Rattle.std.proofs.lemmas.Bool.{true≢false}
 use Rattle.capnp_wire.specs.Standing.{struct_of, tree_of}
 use Rattle.capnp_wire.specs.Tree.{Tree, empty_struct, nth_tree}
@@ -8,7 +8,7 @@ use Rattle.capnp_wire.specs.declared.pointer_reader.PointerReader.{PointerReader
 use Rattle.capnp_wire.specs.declared.struct_reader.StructReader.{StructReader}
 use Rattle.capnp_schema.specs.Accepted.{IsAccepted, IsGroupOf, NamesEntries}
 use Rattle.capnp_schema.specs.Facts.Groups.{group_fields_name_brands}
-use Rattle.capnp_schema.specs.FieldLists.{field_schema, index_of, typed_of}
+use Rattle.capnp_schema.specs.FieldLists.{IsFieldOf, field_schema, index_of, typed_of}
 use Rattle.capnp_schema.specs.GroupsDown.{IfGroup, LeadsToGroup}
 use Rattle.capnp_schema.specs.Laws.{group_height}
 use Rattle.capnp_schema.specs.Plan.{data_place, plan_in, plan_of, plan_place, slot_place}
@@ -30,15 +30,19 @@ use Rattle.capnp_records.specs.Reading.{Reading, nth_reading, number_value, part
 use Rattle.capnp_records.specs.Record as value
 use Rattle.capnp_records.specs.Record.{Endless, Record, Value}
 use Rattle.capnp_schema.specs.SlotValue.{slot_number}
+use Rattle.capnp_dynamic_readers.specs.Seen.{value_seen}
+use Rattle.capnp_dynamic_readers.specs.Typed.{IsOf}
+use Rattle.capnp_dynamic_readers.specs.declared.dynamic_value.Reader.{Reader as DynamicValue}
 use Rattle.capnp_call.specs.Seen.{step_seen}
+use Rattle.capnp_call.specs.declared.calls.Op.TheVariants as op
 use Rattle.capnp_call.specs.declared.calls.Step.{Step}
 use Rattle.capnp_call.specs.declared.calls.Step.TheVariants as step
 use Rattle.capnp_diffs.specs.Changes.{ByKind, CanStand, Change, Inits, IsGroupTold, IsRecordTold, IsSwitchTold, IsTold, all_behind, record_changes, switch_changes, value_changes, whole_change}
-use Rattle.capnp_diffs.specs.Found.{Adds, IsFoundAt, IsPartFound, IsRecordFound, IsSwitchFound, one_change, whole_part, whole_record}
+use Rattle.capnp_diffs.specs.Found.{Adds, IsFoundAt, IsPartFound, IsReady, IsRecordFound, IsSwitchFound, goal_seen, one_change, whole_part, whole_record}
 use Rattle.capnp_diffs.specs.declared.change.Change.{Change as FoundChange}
 use Rattle.capnp_diffs.proofs.Added.{adds_behind, adds_both}
-use Rattle.capnp_diffs.proofs.Falls.{group_falls, walk_base}
-use Rattle.capnp_diffs.proofs.Slots.{IsNoGroup, by_slot}
+use Rattle.capnp_diffs.proofs.Falls.{base_least, group_falls, walk_base}
+use Rattle.capnp_diffs.proofs.Slots.{IsNoGroup, by_slot, field_no_group, field_put, field_stands}
 use Rattle.capnp_diffs.proofs.Steps.{switch_whole}
 
 -- ---- the last step of a path ----
@@ -315,3 +319,74 @@ pub record_of_group : (set : Schemas) (brand : ℕ) (g : StructSchema) (old new 
 record_of_group set brand g old new path out found is_set is_number rec =
     subst (λ (n : ℕ). IsRecordFound set n (whole_record set old n) (whole_record set new n) path out found) is_number
     (subst (λ (z : Schemas). IsRecordFound z (number_of g) (whole_record z old (number_of g)) (whole_record z new (number_of g)) path out found) is_set rec)
+
+pub same_base : (s z : StructSchema) (levels : ℕ) → z ≡ s → walk_base (set_of z) levels (group_height (set_of z) (number_of z)) ≡ walk_base (set_of s) levels (group_height (set_of s) (number_of s))
+same_base s z levels is = ap (λ (x : StructSchema). walk_base (set_of x) levels (group_height (set_of x) (number_of x))) is
+
+-- what a call of a walk takes for a pointer
+pub pointer_base : (set z : Schemas) (levels l height : ℕ) → z ≡ set → l ≡ levels → walk_base z l 0 ≤ walk_base set levels height
+pointer_base set z levels l height is_set is_levels =
+    subst (λ (x : Schemas). walk_base x l 0 ≤ walk_base set levels height) (sym is_set) (subst (λ (n : ℕ). walk_base set n 0 ≤ walk_base set levels height) (sym is_levels) (base_least set levels height))
+
+module _ (f : Field) (own : StructSchema) (is_own : own ≡ field_schema f) (stands : IsStruct own) (here : IsFieldOf own (index_of f) f) (plan : SlotPlan)
+    (is_plan : plan ≡ plan_of (set_of (field_schema f)) (number_of (field_schema f)) (typed_of f)) where
+  abbrev own_set : Schemas
+  own_set = set_of (field_schema f)
+
+  own_stands : IsStruct (field_schema f)
+  own_stands = subst IsStruct is_own stands
+
+  own_inside : index_of f < length (fields_of own_set (number_of (field_schema f)))
+  own_inside = subst (λ (z : StructSchema). index_of f < length (fields_of (set_of z) (number_of z))) is_own here.inside
+
+  module _ (path : List Step) (out found : List FoundChange) (k : ℕ) (is_index : k ≡ index_of f) where
+    -- behind a pointer
+    module _ (index : ℕ) (e : plan.place ≡ place.Pointer index) (z : Schemas) (is_set : z ≡ own_set) (t : SchemaType) (is_type : t ≡ (typed_of f).type) where
+      pub behind_found : (old new : StructReader) (x y : Tree) → x ≡ nth_tree (struct_of old).pointers index → y ≡ nth_tree (struct_of new).pointers index →
+          IsFoundAt z (step.Field k) t (value_of z x Endless t) (value_of z y Endless t) path out found →
+          IsPartFound own_set (typed_of f) (index_of f) (whole_part own_set old (typed_of f)) (whole_part own_set new (typed_of f)) path out found
+      behind_found old new x y is_x is_y found_at =
+          pointer_found own_set (typed_of f) index (pointer_here f plan is_plan index e) (index_of f) path out found old new x y t k is_index is_type is_x is_y
+          (subst (λ (u : Schemas). IsFoundAt u (step.Field k) t (value_of u x Endless t) (value_of u y Endless t) path out found) is_set found_at)
+
+      pub behind_switched : (new : StructReader) (y : Tree) → y ≡ nth_tree (struct_of new).pointers index →
+          Adds z path out found (whole_change (step_seen (step.Field k)) t (value_of z y Endless t) ∷ []) → CanStand t (value_of z y Endless t) →
+          IsSwitchFound own_set (typed_of f) (index_of f) (whole_part own_set new (typed_of f)) path out found
+      behind_switched new y is_y adds can =
+          pointer_switched own_set (typed_of f) index (pointer_here f plan is_plan index e) (index_of f) path out found new y t k is_index is_type is_y
+          (subst (λ (u : Schemas). Adds u path out found (whole_change (step_seen (step.Field k)) t (value_of u y Endless t) ∷ [])) is_set adds)
+          (subst (λ (u : Schemas). CanStand t (value_of u y Endless t)) is_set can)
+
+    -- a group
+    module _ (g : ℕ) (e : plan.place ≡ place.Group g) (gs : StructSchema) (is_set : set_of gs ≡ own_set) (is_number : number_of gs ≡ g) (inner : List Step) (is_inner : inner ≡ (path ++ step.Field k ∷ [])) where
+      pub group_gone : (old new : StructReader) →
+          IsRecordFound (set_of gs) (number_of gs) (whole_record (set_of gs) old (number_of gs)) (whole_record (set_of gs) new (number_of gs)) inner out found →
+          IsPartFound own_set (typed_of f) (index_of f) (whole_part own_set old (typed_of f)) (whole_part own_set new (typed_of f)) path out found
+      group_gone old new rec =
+          group_found own_set own_stands.accepted (number_of (field_schema f)) (index_of f) own_stands.number own_inside g (group_here f plan is_plan g e) path inner out found k is_index is_inner old new
+          (record_of_group own_set g gs old new inner out found is_set is_number rec)
+
+      pub group_made : (before : List FoundChange) (empty new : StructReader) → struct_of empty ≡ empty_struct → Adds own_set path before out (one_change (step.Field k) Inits) →
+          IsRecordFound (set_of gs) (number_of gs) (whole_record (set_of gs) empty (number_of gs)) (whole_record (set_of gs) new (number_of gs)) inner out found →
+          IsSwitchFound own_set (typed_of f) (index_of f) (whole_part own_set new (typed_of f)) path before found
+      group_made before empty new is_empty first rec =
+          group_switched own_set own_stands.accepted (number_of (field_schema f)) (index_of f) own_stands.number own_inside g (group_here f plan is_plan g e) path inner out found k is_index is_inner before empty new is_empty first
+          (record_of_group own_set g gs empty new inner out found is_set is_number rec)
+
+-- a number that is put for a member
+module _ (f : Field) (stands : IsStruct (field_schema f)) (inside : index_of f < length (fields_of (set_of (field_schema f)) (number_of (field_schema f)))) (number : is_pointer (typed_of f).type ≡ false) where
+  pub number_switched : (reader : StructReader) (target : DynamicValue) (path : List Step) (old new : List FoundChange) → value_seen target ≡ whole_part (set_of (field_schema f)) reader (typed_of f) →
+      (k : ℕ) → k ≡ index_of f → IsOf (set_of (field_schema f)) (typed_of f).type target →
+      ((s : Schemas) → IsReady s (op.Set target) → Adds s path old new (one_change (step.Field k) (goal_seen (op.Set target)))) →
+      IsSwitchFound (set_of (field_schema f)) (typed_of f) (index_of f) (whole_part (set_of (field_schema f)) reader (typed_of f)) path old new
+  number_switched reader target path old new is k is_index of added =
+      whole_switched (set_of (field_schema f)) (typed_of f) (index_of f) (whole_part (set_of (field_schema f)) reader (typed_of f)) path old new
+      (field_no_group f stands inside number reader target path old new is)
+      (field_put f stands inside number reader target path old new is k is_index of added)
+      (field_stands f stands inside number reader target path old new is)
+
+-- a path as a slice
+pub switched_along : (f : Field) (new : StructReader) (slice path : List Step) (out found : List FoundChange) → slice ≡ path →
+    IsSwitchFound (set_of (field_schema f)) (typed_of f) (index_of f) (whole_part (set_of (field_schema f)) new (typed_of f)) slice out found →
+    IsSwitchFound (set_of (field_schema f)) (typed_of f) (index_of f) (whole_part (set_of (field_schema f)) new (typed_of f)) path out found
+switched_along f new slice path out found is switch = subst (λ (xs : List Step). IsSwitchFound (set_of (field_schema f)) (typed_of f) (index_of f) (whole_part (set_of (field_schema f)) new (typed_of f)) xs out found) is switch

@@ -21,7 +21,7 @@ use Rattle.capnp_records.specs.Reading.{Reading, kind_value, nth_reading, number
 use Rattle.capnp_records.specs.Record as value
 use Rattle.capnp_records.specs.Record.{Endless, Left, Levels, Record, Value}
 use Rattle.capnp_dynamic_readers.specs.Handles.{reader_of, schema_of}
-use Rattle.capnp_dynamic_readers.specs.Reads.{field_read, field_seen, handed_out}
+use Rattle.capnp_dynamic_readers.specs.Reads.{BelongsTo, field_read, field_seen, handed_out}
 use Rattle.capnp_dynamic_readers.specs.Seen.{answered_value, value_seen}
 use Rattle.capnp_dynamic_readers.specs.Typed.{IsOf}
 use Rattle.capnp_dynamic_readers.specs.declared.dynamic_struct.Reader.{Reader as StructHandle}
@@ -81,9 +81,9 @@ number_read set d (ListType t) n = refl
 number_read set d AnyPointerType n = refl
 
 -- a slot of numbers has its number, whatever levels are left
-record HasNumber (t : SchemaType) (v : Value) : Type 0 where
-  number : ℕ
-  is : v ≡ number_value t number
+pub record HasNumber (t : SchemaType) (v : Value) : Type 0 where
+  pub number : ℕ
+  pub is : v ≡ number_value t number
 
 module _ (group : Levels → ℕ → Record) (bytes : List ℕ) (pointers : List Reading) where
   has_number : (k : FieldKind) (t : SchemaType) → is_pointer t ≡ false → IsNoGroup k → HasNumber t (kind_value (group Endless) Endless bytes pointers k t)
@@ -351,3 +351,7 @@ module _ (f : Field) (stands : IsStruct (field_schema f)) (inside : index_of f <
 
     pub field_no_group : IsNoGroup (typed_of f).field.kind
     field_no_group = none
+
+-- a field belongs to its own schema
+pub belongs_own : (f : Field) (s : StructSchema) → s ≡ field_schema f → BelongsTo f s
+belongs_own f s is = record { set = ap set_of (sym is); number = ap number_of (sym is) }

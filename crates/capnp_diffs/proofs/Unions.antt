@@ -129,9 +129,9 @@ unfolding whole_record whole_part
 active_in set r b j e = let a = active_at set (struct_of r) b j e in record { member = a.member; union = a.union }
 
 which_active : (r : Record) (j : ℕ) → is_active (union_held r) j ≡ true → which_of r ≡ Some j
-which_active (Parts vs NoUnion) j e = absurd (true≢false (sym e))
-which_active (Parts vs (Active i v)) j e = ap Some (sym (eqb-true j i e))
-which_active (Parts vs (Unknown n)) j e = absurd (true≢false (sym e))
+which_active (Parts xs NoUnion) j e = absurd (true≢false (sym e))
+which_active (Parts xs (Active i v)) j e = ap Some (sym (eqb-true j i e))
+which_active (Parts xs (Unknown n)) j e = absurd (true≢false (sym e))
 
 pub active_from : (set : Schemas) (r : StructReader) (b j : ℕ) → is_active (union_held (whole_record set r b)) j ≡ true → IsActiveIn set r b j
 active_from set r b j e = active_in set r b j (which_active (whole_record set r b) j e)

@@ -1,5 +1,5 @@
 //! Structs and groups of one schema on both sides.
-ghost use Rattle.std.specs.Prelude.{◌≡◌, IfOk, OnOk, true};
+ghost use Rattle.std.specs.Prelude.{◌≡◌, IfOk, OnOk, false, true};
 ghost use Rattle.capnp_schema.specs.FieldLists.{IsFieldOf, field_schema, index_of, typed_of};
 ghost use Rattle.capnp_schema.specs.Schema.{is_member};
 ghost use Rattle.capnp_schema.specs.StructHandles.{IsStruct, number_of, set_of};
