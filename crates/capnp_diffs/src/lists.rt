@@ -1,15 +1,15 @@
 //! Lists of one type on both sides.
-ghost use Rattle.std.specs.Prelude.{[], Some, ◌≡◌, ◌↔◌, IfOk, OnOk, false, true, IsTrue};
+ghost use Rattle.std.specs.Prelude.{[], None, Some, ◌≡◌, ◌↔◌, IfOk, OnOk, false, true, IsTrue};
 ghost use Rattle.capnp_wire.specs.Reading.{list_length};
 ghost use Rattle.capnp_wire.specs.Standing.{list_of, tree_of};
 ghost use Rattle.capnp_schema.specs.Accepted.{NamesEntries};
 ghost use Rattle.capnp_schema.specs.Entries.{lists_seen};
 ghost use Rattle.capnp_schema.specs.StructHandles.{IsStruct, set_of};
-ghost use Rattle.capnp_schema.specs.Types.{ListType, is_pointer, seen_type};
+ghost use Rattle.capnp_schema.specs.Types.{ListType, is_pointer, seen_type, struct_brand};
 ghost use Rattle.capnp_records.specs.Reading.{value_of};
 ghost use Rattle.capnp_records.specs.Record.{Endless};
 ghost use Rattle.capnp_dynamic_readers.specs.Typed.{struct_type};
-ghost use Rattle.capnp_diffs.specs.Changes.{IsRowTold, row_changes};
+ghost use Rattle.capnp_diffs.specs.Changes.{row_changes};
 ghost use Rattle.capnp_diffs.specs.Found.{IsFoundAt, IsRowFound, elements_in};
 ghost use Rattle.capnp_diffs.specs.Leaves.{list_value};
 
@@ -17,6 +17,7 @@ use crate::change::Change;
 use crate::leaves::is_same_leaf;
 use crate::pointers::find_behind;
 use crate::puts::put_list;
+use crate::reads::element_there;
 use crate::records::find_in_record;
 use capnp_base::introspect::{Type, TypeVariant};
 use capnp_call::calls::Step;
@@ -38,8 +39,6 @@ fn are_same_numbers<'a>(
     requires length { list_length (list_of old) ≡ list_length (list_of new) }
     ensures same { IfOk result (λ q. IsTrue q ↔ (row_changes (lists_seen schemas.now) (seen_type element) 0
         (elements_in (lists_seen schemas.now) old.entry (seen_type element)) (elements_in (lists_seen schemas.now) new.entry (seen_type element)) ≡ [])) }
-    ensures told { IsRowTold (lists_seen schemas.now) (seen_type element)
-        (elements_in (lists_seen schemas.now) old.entry (seen_type element)) (elements_in (lists_seen schemas.now) new.entry (seen_type element)) }
 {
     let source = dynamic_list::Reader::new(old, element, schemas);
     let target = dynamic_list::Reader::new(new, element, schemas);
@@ -92,6 +91,7 @@ fn find_in_pointers<'a>(
     out: &mut Vec<Change<'a>>,
 ) -> Result<()>
     requires pointer { is_pointer (seen_type element) ≡ true }
+    requires plain { struct_brand (seen_type element) ≡ None }
     requires named { NamesEntries (lists_seen schemas.now) (seen_type element) }
     requires length { list_length (list_of old) ≡ list_length (list_of new) }
     ensures path { OnOk result (path.new.items ≡ path.old.items) }
@@ -99,8 +99,8 @@ fn find_in_pointers<'a>(
         path.old.items out.old.items out.new.items) }
 {
     for index in 0..new.len() {
-        let source = old.get_pointer_element(index);
-        let target = new.get_pointer_element(index);
+        let source = element_there(&old, index)?;
+        let target = element_there(&new, index)?;
         let step = Step::Element(index);
         if let Err(error) = find_behind(alloc, schemas, element, step, source, target, path, out) {
             return Err(error);
@@ -142,17 +142,17 @@ pub(crate) fn find_in_lists<'a>(
         path.pop();
         return found;
     }
-    let is_same = if element.is_pointer_type() {
-        let mut differing = Vec::new(alloc);
-        if let Err(error) = find_in_pointers(alloc, schemas, element, old, new, path, &mut differing)
-        {
-            return Err(error);
+    if !element.is_pointer_type() {
+        if are_same_numbers(schemas, element, old, new)? {
+            return Ok(());
         }
-        differing.len() == 0
-    } else {
-        are_same_numbers(schemas, element, old, new)?
-    };
-    if is_same {
+        return put_list(alloc, schemas, element, step, pointer, new, path.as_slice(), out);
+    }
+    let mut differing = Vec::new(alloc);
+    if let Err(error) = find_in_pointers(alloc, schemas, element, old, new, path, &mut differing) {
+        return Err(error);
+    }
+    if differing.len() == 0 {
         return Ok(());
     }
     put_list(alloc, schemas, element, step, pointer, new, path.as_slice(), out)

@@ -1,5 +1,6 @@
 //! What stands behind a pointer; nothing where it is null.
-ghost use Rattle.std.specs.Prelude.{ℕ, ◌≡◌, ◌+◌, IfOk, IfSome};
+ghost use Rattle.std.specs.Prelude.{ℕ, ◌≡◌, ◌≤◌, ◌+◌, IfOk, IfSome};
+ghost use Rattle.capnp_wire.specs.Reading.{element_pointer};
 ghost use Rattle.capnp_wire.specs.Standing.{levels_of, list_levels, list_of, struct_levels, tree_of};
 ghost use Rattle.capnp_schema.specs.Schema.{Schemas};
 ghost use Rattle.capnp_schema.specs.Types.{DataType, ListType, SchemaType, StructType, TextType, element_size};
@@ -61,4 +62,23 @@ pub(crate) fn list_there<'a>(
         return Ok(None);
     }
     Ok(Some(pointer.get_list(size)?))
+}
+
+/// The pointer of an element. Refused with `TooDeep` where it is no null and no level is left for the struct that it is
+/// entered through.
+pub(crate) fn element_there<'a>(list: &ListReader<'a>, index: u32) -> Result<PointerReader<'a>>
+    ensures tree { IfOk result (λ p. tree_of p ≡ element_pointer (list_of list.now) index 1) }
+    ensures levels { IfOk result (λ p. levels_of p ≤ list_levels list.now) }
+{
+    let pointer = list.get_pointer_element(index);
+    if pointer.is_null() {
+        return Ok(pointer);
+    }
+    match list.get_element_size() {
+        ElementSize::InlineComposite => {
+            list.get_struct_element(index)?;
+            Ok(pointer)
+        }
+        _ => Ok(pointer),
+    }
 }

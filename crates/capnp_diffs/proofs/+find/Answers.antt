@@ -5,12 +5,13 @@ use Rattle.capnp_schema.specs.FieldLists.{IsFieldOf, field_schema, index_of, typ
 use Rattle.capnp_schema.specs.Schema.{Schemas, is_member}
 use Rattle.capnp_schema.specs.StructHandles.{IsStruct, number_of, set_of, struct_field, struct_fields}
 use Rattle.capnp_schema.specs.declared.schema.structs.StructSchema.{StructSchema}
-use Rattle.capnp_wire.specs.Standing.{struct_levels, tree_of}
+use Rattle.capnp_wire.specs.Standing.{levels_of, struct_levels, tree_of}
+use Rattle.capnp_schema.specs.Laws.{group_height}
 use Rattle.capnp_schema.specs.Accepted.{NamesEntries}
 use Rattle.capnp_schema.specs.Types.{is_pointer, seen_type}
 use Rattle.capnp_call.specs.declared.calls.Step.TheVariants as step
 use Rattle.capnp_diffs.proofs.FieldRows.{left_end, left_member, left_plain}
-use Rattle.capnp_diffs.proofs.Parts.{behind_found, behind_switched, group_gone, group_made, leads_in, lower_group, number_here, number_switched, pointer_here, same_base, switched_along}
+use Rattle.capnp_diffs.proofs.Parts.{behind_found, behind_switched, group_gone, group_made, leads_in, lower_group, number_here, number_switched, pointer_base, pointer_here, same_base, switched_along}
 use Rattle.capnp_diffs.proofs.Added.{adds_along}
 use Rattle.capnp_diffs.proofs.Slots.{belongs_own}
 use Rattle.capnp_diffs.proofs.Unions.{active_answer, active_from, member_active, member_found, part_in, switch_in, union_kept, union_left, union_switched}
@@ -19,51 +20,51 @@ use Rattle.capnp_diffs.proofs.+find.Goals as goal
 
 -- ---- records ----
 
-pub find_in_fields-loop-index-preserved-then-is_member : goal.find_in_fields-loop-index-preserved-then-is_member
-find_in_fields-loop-index-preserved-then-is_member t c = record {
+pub records::find_in_fields-loop-index-preserved-then-is_member : goal.records::find_in_fields-loop-index-preserved-then-is_member
+records::find_in_fields-loop-index-preserved-then-is_member t c = record {
   path = c.loop-index.invariant.path;
   left = left_member c.args.schema c.args.old c.args.new c.args.path.now.items c.args.out.now.items c.loop-index.index c.loop-index.out.items c.loop-index.invariant.left
       c.get-field.result _ c.in-Ok.ensures c.get-field.ensures (ap is_member (sym c.get_proto.ensures) ∙ (sym c.is_member.ensures ∙ c.if-is_member.true));
 }
 
-pub find_in_fields-loop-index-preserved : goal.find_in_fields-loop-index-preserved
-find_in_fields-loop-index-preserved t c = record {
+pub records::find_in_fields-loop-index-preserved : goal.records::find_in_fields-loop-index-preserved
+records::find_in_fields-loop-index-preserved t c = record {
   path = c.in_default-find_in_field.ensures.path ∙ c.loop-index.invariant.path;
   left = left_plain c.args.schema c.args.old c.args.new c.args.path.now.items c.args.out.now.items c.loop-index.index c.loop-index.out.items c.loop-index.invariant.left
       c.get-field.result _ c.in-Ok.ensures c.get-field.ensures (ap is_member (sym c.get_proto.ensures) ∙ (sym c.is_member.ensures ∙ c.if-is_member.false))
       c.loop-index.path.items c.loop-index.invariant.path c.find_in_field.new.out.items c.in_default-find_in_field.ensures.found;
 }
 
-pub find_in_fields-returns-clause-found : goal.find_in_fields-returns-clause-found
-find_in_fields-returns-clause-found t c =
+pub records::find_in_fields-returns-clause-found : goal.records::find_in_fields-returns-clause-found
+records::find_in_fields-returns-clause-found t c =
     let n = ap (λ (z : StructSchema). length (struct_fields z)) c.in-Ok.ensures in
     left_end c.args.schema c.args.old c.args.new c.args.path.now.items c.args.out.now.items c.loop-index.index c.loop-index.out.items c.loop-index.invariant.left
     (omega (arith, c.loop-index-test.false, c.len-index-end.ensures, n))
 
-pub find_in_union-returns-in_default-clause-found : goal.find_in_union-returns-in_default-clause-found
-find_in_union-returns-in_default-clause-found t c = ok_map c.check_unknown.result
+pub records::find_in_union-returns-in_default-clause-found : goal.records::find_in_union-returns-in_default-clause-found
+records::find_in_union-returns-in_default-clause-found t c = ok_map c.check_unknown.result
     (λ alike. union_left c.args.schema c.args.old c.args.new c.args.path.now.items c.args.out.now.items c.in_default.ensures alike)
     c.check_unknown.ensures
 
-pub find_in_union-is_active-requires : goal.find_in_union-is_active-requires
-find_in_union-is_active-requires t c =
+pub records::find_in_union-is_active-requires : goal.records::find_in_union-is_active-requires
+records::find_in_union-is_active-requires t c =
     let here : IsFieldOf c.args.schema (index_of c.in-Some.field) c.in-Some.field = member_found c.args.schema c.args.new c.in-Some.field c.in-Some.ensures in
     belongs_own c.in-Some.field _ (c.new.ensures.schema ∙ sym here.schema)
 
-pub find_in_union-find_in_field-requires : goal.find_in_union-find_in_field-requires
-find_in_union-find_in_field-requires t c =
+pub records::find_in_union-find_in_field-requires : goal.records::find_in_union-find_in_field-requires
+records::find_in_union-find_in_field-requires t c =
     let here : IsFieldOf c.args.schema (index_of c.in-Some.field) c.in-Some.field = member_found c.args.schema c.args.new c.in-Some.field c.in-Some.ensures in
     omega (arith, c.decreases, same_base c.args.schema (field_schema c.in-Some.field) (struct_levels c.args.new) here.schema)
 
-pub find_in_union-switch_to-requires : goal.find_in_union-switch_to-requires
-find_in_union-switch_to-requires t c =
+pub records::find_in_union-switch_to-requires : goal.records::find_in_union-switch_to-requires
+records::find_in_union-switch_to-requires t c =
     let here : IsFieldOf c.args.schema (index_of c.in-Some.field) c.in-Some.field = member_found c.args.schema c.args.new c.in-Some.field c.in-Some.ensures in
     let active = member_active c.args.schema c.args.new c.in-Some.field c.in-Some.ensures in
     (omega (arith, c.decreases, same_base c.args.schema (field_schema c.in-Some.field) (struct_levels c.args.new) here.schema),
     subst (λ (z : StructSchema). is_member (struct_field z (index_of c.in-Some.field)).field ≡ true) (sym here.schema) active.member)
 
-pub find_in_union-returns-then-is_active-clause-found : goal.find_in_union-returns-then-is_active-clause-found
-find_in_union-returns-then-is_active-clause-found t c =
+pub records::find_in_union-returns-then-is_active-clause-found : goal.records::find_in_union-returns-then-is_active-clause-found
+records::find_in_union-returns-then-is_active-clause-found t c =
     let s : StructSchema = c.args.schema in
     let here : IsFieldOf s (index_of c.in-Some.field) c.in-Some.field = member_found s c.args.new c.in-Some.field c.in-Some.ensures in
     let active = member_active s c.args.new c.in-Some.field c.in-Some.ensures in
@@ -74,8 +75,8 @@ find_in_union-returns-then-is_active-clause-found t c =
     (part_in s c.in-Some.field c.args.old c.args.new c.args.path.now.items c.args.out.now.items c.find_in_field.new.out.items here.schema part))
     c.find_in_field.ensures.found
 
-pub find_in_union-returns-else-is_active-clause-found : goal.find_in_union-returns-else-is_active-clause-found
-find_in_union-returns-else-is_active-clause-found t c =
+pub records::find_in_union-returns-else-is_active-clause-found : goal.records::find_in_union-returns-else-is_active-clause-found
+records::find_in_union-returns-else-is_active-clause-found t c =
     let s : StructSchema = c.args.schema in
     let here : IsFieldOf s (index_of c.in-Some.field) c.in-Some.field = member_found s c.args.new c.in-Some.field c.in-Some.ensures in
     let active = member_active s c.args.new c.in-Some.field c.in-Some.ensures in
@@ -86,18 +87,18 @@ find_in_union-returns-else-is_active-clause-found t c =
     (switch_in s c.in-Some.field c.args.new c.args.path.now.items c.args.out.now.items c.switch_to.new.out.items here.schema switch))
     c.switch_to.ensures.found
 
-pub find_in_field-find_behind-requires : goal.find_in_field-find_behind-requires
-find_in_field-find_behind-requires t c =
+pub records::find_in_field-find_behind-requires : goal.records::find_in_field-find_behind-requires
+records::find_in_field-find_behind-requires t c =
     let own = c.get_containing_struct in
     let set_is = c.get_set-schemas.ensures ∙ ap set_of own.ensures.is in
     let at = pointer_here c.args.field c.plan.result c.plan.ensures.is c.in-Pointer.index c.in-Pointer.is in
-    record {
-      pointer = ap is_pointer c.get_type.ensures.is ∙ at.pointer;
-      named = subst (λ (z : Schemas). NamesEntries z (seen_type c.get_type.result)) (sym set_is) c.get_type.ensures.named;
-    }
+    let s : StructSchema = field_schema c.args.field in
+    (omega (arith, c.decreases, pointer_base (set_of s) (lists_seen c.get_set-schemas.result.now) (struct_levels c.args.new) (levels_of c.get_pointer_field-in-Pointer.result) (group_height (set_of s) (number_of s)) set_is c.get_pointer_field-in-Pointer.ensures.levels),
+    (ap is_pointer c.get_type.ensures.is ∙ at.pointer,
+    subst (λ (z : Schemas). NamesEntries z (seen_type c.get_type.result)) (sym set_is) c.get_type.ensures.named))
 
-pub find_in_field-returns-in-Pointer-clause-found : goal.find_in_field-returns-in-Pointer-clause-found
-find_in_field-returns-in-Pointer-clause-found t c =
+pub records::find_in_field-returns-in-Pointer-clause-found : goal.records::find_in_field-returns-in-Pointer-clause-found
+records::find_in_field-returns-in-Pointer-clause-found t c =
     let own = c.get_containing_struct in
     ok_map c.find_behind.result
     (behind_found c.args.field own.result own.ensures.is own.ensures.stands own.ensures.field c.plan.result c.plan.ensures.is c.args.path.now.items c.args.out.now.items c.find_behind.new.out.items c.get_index.result c.get_index.ensures
@@ -105,8 +106,8 @@ find_in_field-returns-in-Pointer-clause-found t c =
     (tree_of c.get_pointer_field.result) (tree_of c.get_pointer_field-in-Pointer.result) c.get_pointer_field.ensures.tree c.get_pointer_field-in-Pointer.ensures.tree)
     c.find_behind.ensures.found
 
-pub find_in_field-find_in_record-found-requires : goal.find_in_field-find_in_record-found-requires
-find_in_field-find_in_record-found-requires t c =
+pub records::find_in_field-find_in_record-found-requires : goal.records::find_in_field-find_in_record-found-requires
+records::find_in_field-find_in_record-found-requires t c =
     let own = c.get_containing_struct in
     let set_is = c.get_set-schemas.ensures ∙ ap set_of own.ensures.is in
     let group = c.struct_schema-group in
@@ -115,8 +116,8 @@ find_in_field-find_in_record-found-requires t c =
     (omega (arith, c.decreases, lower_group s group.result (struct_levels c.args.new) c.in-Group.brand (group.ensures.set ∙ set_is) group.ensures.number leads),
     group.ensures.stands (subst (λ (z : Schemas). c.in-Group.brand < length z.brands) (sym set_is) leads.down.brand))
 
-pub find_in_field-returns-in_ok-push-in-Group-clause-found : goal.find_in_field-returns-in_ok-push-in-Group-clause-found
-find_in_field-returns-in_ok-push-in-Group-clause-found t c =
+pub records::find_in_field-returns-in_ok-push-in-Group-clause-found : goal.records::find_in_field-returns-in_ok-push-in-Group-clause-found
+records::find_in_field-returns-in_ok-push-in-Group-clause-found t c =
     let own = c.get_containing_struct in
     let group = c.struct_schema-group in
     ok_map c.find_in_record-found.result
@@ -124,11 +125,11 @@ find_in_field-returns-in_ok-push-in-Group-clause-found t c =
     c.in-Group.brand c.in-Group.is group.result (group.ensures.set ∙ (c.get_set-schemas.ensures ∙ ap set_of own.ensures.is)) group.ensures.number c.push.new.self.items c.in_ok-push-in-Group.ensures.items c.args.old c.args.new)
     c.find_in_record-found.ensures.found
 
-pub find_in_field-find_in_data_slot-requires : goal.find_in_field-find_in_data_slot-requires
-find_in_field-find_in_data_slot-requires t c = record { number = number_here c.args.field c.plan.result c.plan.ensures.is c.in_default.not-Pointer c.in_default.not-Group }
+pub records::find_in_field-find_in_data_slot-requires : goal.records::find_in_field-find_in_data_slot-requires
+records::find_in_field-find_in_data_slot-requires t c = record { number = number_here c.args.field c.plan.result c.plan.ensures.is c.in_default.not-Pointer c.in_default.not-Group }
 
-pub switch_to-put_pointer-requires : goal.switch_to-put_pointer-requires
-switch_to-put_pointer-requires t c =
+pub records::switch_to-put_pointer-requires : goal.records::switch_to-put_pointer-requires
+records::switch_to-put_pointer-requires t c =
     let own = c.get_containing_struct in
     let set_is = c.get_set-schemas.ensures ∙ ap set_of own.ensures.is in
     let at = pointer_here c.args.field c.plan.result c.plan.ensures.is c.in-Pointer.index c.in-Pointer.is in
@@ -137,8 +138,8 @@ switch_to-put_pointer-requires t c =
       named = subst (λ (z : Schemas). NamesEntries z (seen_type c.get_type.result)) (sym set_is) c.get_type.ensures.named;
     }
 
-pub switch_to-returns-in-Pointer-clause-found : goal.switch_to-returns-in-Pointer-clause-found
-switch_to-returns-in-Pointer-clause-found t c =
+pub records::switch_to-returns-in-Pointer-clause-found : goal.records::switch_to-returns-in-Pointer-clause-found
+records::switch_to-returns-in-Pointer-clause-found t c =
     let own = c.get_containing_struct in
     ok_both c.put_pointer.result
     (λ put stands. switched_along c.args.field c.args.new c.as_slice.result.now c.args.path.now.items c.args.out.now.items c.put_pointer.new.out.items c.as_slice.ensures.value
@@ -147,8 +148,8 @@ switch_to-returns-in-Pointer-clause-found t c =
     (tree_of c.get_pointer_field.result) c.get_pointer_field.ensures.tree put stands))
     c.put_pointer.ensures.put c.put_pointer.ensures.stands
 
-pub switch_to-find_in_record-found-requires : goal.switch_to-find_in_record-found-requires
-switch_to-find_in_record-found-requires t c =
+pub records::switch_to-find_in_record-found-requires : goal.records::switch_to-find_in_record-found-requires
+records::switch_to-find_in_record-found-requires t c =
     let own = c.get_containing_struct in
     let set_is = c.get_set-schemas.ensures ∙ ap set_of own.ensures.is in
     let group = c.struct_schema-group in
@@ -157,8 +158,8 @@ switch_to-find_in_record-found-requires t c =
     (omega (arith, c.decreases, lower_group s group.result (struct_levels c.args.new) c.in-Group.brand (group.ensures.set ∙ set_is) group.ensures.number leads),
     group.ensures.stands (subst (λ (z : Schemas). c.in-Group.brand < length z.brands) (sym set_is) leads.down.brand))
 
-pub switch_to-returns-in_ok-push-in-Group-clause-found : goal.switch_to-returns-in_ok-push-in-Group-clause-found
-switch_to-returns-in_ok-push-in-Group-clause-found t c =
+pub records::switch_to-returns-in_ok-push-in-Group-clause-found : goal.records::switch_to-returns-in_ok-push-in-Group-clause-found
+records::switch_to-returns-in_ok-push-in-Group-clause-found t c =
     let own = c.get_containing_struct in
     let group = c.struct_schema-group in
     ok_map c.find_in_record-found.result
@@ -167,11 +168,11 @@ switch_to-returns-in_ok-push-in-Group-clause-found t c =
     (adds_along (set_of (field_schema c.args.field)) c.as_slice-in-Group.result.now c.args.path.now.items c.args.out.now.items c.put_change.new.out.items c.as_slice-in-Group.ensures.value (c.in_ok-put_change-in-Group.ensures.added (set_of (field_schema c.args.field)) tt)))
     c.find_in_record-found.ensures.found
 
-pub switch_to-read_slot-requires : goal.switch_to-read_slot-requires
-switch_to-read_slot-requires t c = record { number = number_here c.args.field c.plan.result c.plan.ensures.is c.in_default.not-Pointer c.in_default.not-Group }
+pub records::switch_to-read_slot-requires : goal.records::switch_to-read_slot-requires
+records::switch_to-read_slot-requires t c = record { number = number_here c.args.field c.plan.result c.plan.ensures.is c.in_default.not-Pointer c.in_default.not-Group }
 
-pub switch_to-returns-in_ok-target-in_default-clause-found : goal.switch_to-returns-in_ok-target-in_default-clause-found
-switch_to-returns-in_ok-target-in_default-clause-found t c =
+pub records::switch_to-returns-in_ok-target-in_default-clause-found : goal.records::switch_to-returns-in_ok-target-in_default-clause-found
+records::switch_to-returns-in_ok-target-in_default-clause-found t c =
     let number = number_here c.args.field c.plan.result c.plan.ensures.is c.in_default.not-Pointer c.in_default.not-Group in
     ok_map c.put_change-in_default.result
     (λ added. switched_along c.args.field c.args.new c.as_slice-in_default.result.now c.args.path.now.items c.args.out.now.items c.put_change-in_default.new.out.items c.as_slice-in_default.ensures.value
