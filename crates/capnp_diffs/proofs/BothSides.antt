@@ -22,6 +22,17 @@ use Rattle.capnp_diffs.specs.Leaves.{list_value, struct_value}
 use Rattle.capnp_diffs.specs.declared.change.Change.{Change as FoundChange}
 use Rattle.capnp_diffs.proofs.Added.{adds_behind, adds_none}
 
+-- what is added at a path is added at the same one
+pub at_path : (set : Schemas) (p q : List Step) (old new : List FoundChange) (cs : List Change) → p ≡ q → Adds set p old new cs → Adds set q old new cs
+at_path set p q old new cs is adds = subst (λ r. Adds set r old new cs) is adds
+
+pub found_path : (set : Schemas) (step : Step) (t : SchemaType) (v w : Value) (p q : List Step) (old new : List FoundChange) → p ≡ q → IsFoundAt set step t v w p old new → IsFoundAt set step t v w q old new
+found_path set step t v w p q old new is found = subst (λ r. IsFoundAt set step t v w r old new) is found
+
+pub no_items : {A : Type 0} (xs : List A) → length xs ≡ 0 → xs ≡ []
+no_items [] h = refl
+no_items (x ∷ xs) h = absurd (omega (arith, h))
+
 -- a path without the step that was added last
 pub path_left : {A : Type 0} (xs ys zs : List A) (x : A) → ys ≡ (xs ++ x ∷ []) → zs ≡ take (length ys - 1) ys → zs ≡ xs
 path_left {A = A} xs ys zs x e is = is ∙ (ap (λ us. take (length us - 1) us) e ∙ without_last xs)
