@@ -72,3 +72,27 @@ same_added set path old v w c e = subst (λ q. Adds set path old old (unless_sam
 
 pub other_added : (set : Schemas) (path : List Step) (old new : List FoundChange) (v w : Value) (c : Change) → same_leaf v w ≡ false → Adds set path old new (c ∷ []) → Adds set path old new (unless_same (same_leaf v w) c)
 other_added set path old new v w c e adds = subst (λ q. Adds set path old new (unless_same q c)) (sym e) adds
+
+-- along a path as a slice
+pub adds_along : (set : Schemas) (slice path : List Step) (old new : List FoundChange) {cs : List Change} → slice ≡ path → Adds set slice old new cs → Adds set path old new cs
+adds_along set slice path old new {cs = cs} is adds = subst (λ (xs : List Step). Adds set xs old new cs) is adds
+
+-- ---- alone ----
+
+within_nothing : (cs : List Change) → all_within [] cs ≡ cs
+within_nothing [] = refl
+within_nothing (c ∷ cs) = ap (λ ds. c ∷ ds) (within_nothing cs)
+
+-- what is added at the root, where nothing was found before
+pub record AddsAlone (set : Schemas) (new : List FoundChange) (cs : List Change) : Type 0 where
+  pub found : changes_seen new ≡ cs
+  pub ready : AreReady set new
+
+pub added_alone : (set : Schemas) (path : List Step) (old new : List FoundChange) (cs : List Change) → path ≡ [] → old ≡ [] → Adds set path old new cs → AddsAlone set new cs
+added_alone set path old new cs at_root nothing adds = record {
+  found =
+      adds.found
+      ∙ (ap₂ (λ (xs : List FoundChange) (steps : List Step). changes_seen xs ++ all_within (path_seen steps) cs) nothing at_root
+      ∙ within_nothing cs);
+  ready = adds.ready (subst (AreReady set) (sym nothing) tt);
+}

@@ -152,3 +152,7 @@ list_put set element l h x step path old new is_set is_element is_reader same is
         (at_reader l is same
         (subst (λ e. value_of (list_set h) x Endless (ListType (seen_type e)) ≡ list_value (list_set h) (seen_type e) (Some l)) (sym is_element)
         (subst (λ s. value_of s x Endless (ListType (seen_type element)) ≡ list_value s (seen_type element) (Some l)) (sym is_set) is_value))))
+
+pub ok_both : {T E P Q R : Type 0} (r : Result T E) → (P → Q → R) → OnOk r P → OnOk r Q → OnOk r R
+ok_both (Ok x) f h k = f h k
+ok_both (Err e) f h k = tt {0}

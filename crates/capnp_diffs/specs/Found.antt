@@ -1,13 +1,16 @@
 -- What changes that were found stand for, and how a walk adds them.
-use Rattle.std.specs.Prelude.{ℕ, ◌≡◌, ⊤, List, [], ◌∷◌, ◌++◌, map}
+use Rattle.std.specs.Prelude.{ℕ, ◌≡◌, ⊤, Some, List, [], ◌∷◌, ◌++◌, map}
 use Rattle.capnp_wire.specs.Reading.{list_length}
 use Rattle.capnp_wire.specs.Standing.{list_of, struct_of}
 use Rattle.capnp_wire.specs.declared.list_reader.ListReader.{ListReader}
 use Rattle.capnp_wire.specs.declared.struct_reader.StructReader.{StructReader}
+use Rattle.capnp_schema.specs.Discriminant.{discriminant_of}
 use Rattle.capnp_schema.specs.Enums.{enum_number}
 use Rattle.capnp_schema.specs.Schema.{Schemas, TypedField}
-use Rattle.capnp_schema.specs.StructHandles.{number_of, set_of}
+use Rattle.capnp_schema.specs.SlotValue.{bits_at}
+use Rattle.capnp_schema.specs.StructHandles.{number_of, set_of, struct_node}
 use Rattle.capnp_schema.specs.Types.{AnyPointerType, BoolType, DataType, EnumType, IntType, ListType, SchemaType, TextType, UIntType, VoidType}
+use Rattle.capnp_schema.specs.declared.schema.structs.StructSchema.{StructSchema}
 use Rattle.capnp_records.specs.Call.{Call, FieldNumber, PathStep}
 use Rattle.capnp_records.specs.Facts.ListValues.{below_of}
 use Rattle.capnp_records.specs.Reading.{element_value, elements_value, part_of, reads, values_of}
@@ -18,7 +21,7 @@ use Rattle.capnp_dynamic_readers.specs.Seen.{value_seen}
 use Rattle.capnp_dynamic_readers.specs.Typed.{struct_type}
 use Rattle.capnp_dynamic_readers.specs.declared.dynamic_value.Reader.{Reader as DynamicValue}
 use Rattle.capnp_dynamic_readers.specs.declared.dynamic_value.Reader.TheVariants as dynamic
-use Rattle.capnp_diffs.specs.Changes.{AreFieldsTold, ByKind, Change, Clears, Goal, Inits, IsGroupTold, IsLeafTold, IsRecordTold, IsRowTold, IsSwitchTold, IsTold, IsUnionTold, Puts, field_changes, record_changes, row_changes, switch_changes, union_changes, value_changes}
+use Rattle.capnp_diffs.specs.Changes.{AreFieldsTold, ByKind, CanStand, Change, Clears, Goal, Inits, IsGroupTold, IsRecordTold, IsRowTold, IsSwitchTold, IsTold, IsUnionTold, Puts, field_changes, record_changes, row_changes, switch_changes, union_changes, value_changes}
 use Rattle.capnp_diffs.specs.Laws.{Brings}
 use Rattle.capnp_call.specs.Seen.{op_seen, path_seen, step_seen}
 use Rattle.capnp_slots.specs.SetValues.{source_of}
@@ -140,7 +143,11 @@ pub record IsUnionFound (set : Schemas) (b : ℕ) (r q : Record) (path : List St
 
 pub record IsSwitchFound (set : Schemas) (f : TypedField) (i : ℕ) (w : Value) (path : List Step) (old new : List FoundChange) : Type 0 where
   pub adds : Adds set path old new (switch_changes set i f.type w)
-  pub told : ByKind f.field.kind (IsLeafTold f.type value.Elsewhere w) (IsSwitchTold set f.type w)
+  pub told : ByKind f.field.kind (CanStand f.type w) (IsSwitchTold set f.type w)
+
+-- the number at the discriminant's place is the same in both, where there is one
+abbrev pub HaveOneNumber : StructSchema → StructReader → StructReader → Type 0
+HaveOneNumber s old new = (first : ℕ) → discriminant_of (struct_node s) ≡ Some first → bits_at (struct_of old).bytes first 16 ≡ bits_at (struct_of new).bytes first 16
 
 -- the elements of a list that is read, whole
 unfoldable pub elements_in : Schemas → ListReader → SchemaType → Values

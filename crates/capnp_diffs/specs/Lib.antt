@@ -2,3 +2,4 @@ pub mod Changes
 pub mod Found
 pub mod Laws
 pub mod Leaves
+pub mod Made

@@ -1,11 +1,12 @@
 //! Structs and groups of one schema on both sides.
-ghost use Rattle.std.specs.Prelude.{◌≡◌, IfOk, OnOk, true};
-ghost use Rattle.capnp_schema.specs.FieldLists.{field_schema, index_of, typed_of};
+ghost use Rattle.std.specs.Prelude.{◌≡◌, IfOk, OnOk, false, true};
+ghost use Rattle.capnp_schema.specs.FieldLists.{IsFieldOf, field_schema, index_of, typed_of};
 ghost use Rattle.capnp_schema.specs.Schema.{is_member};
 ghost use Rattle.capnp_schema.specs.StructHandles.{IsStruct, number_of, set_of};
 ghost use Rattle.capnp_schema.specs.Types.{is_pointer};
 ghost use Rattle.capnp_dynamic_readers.specs.Seen.{value_seen};
-ghost use Rattle.capnp_diffs.specs.Found.{AreFieldsFound, IsPartFound, IsRecordFound, IsSwitchFound, IsUnionFound, whole_part, whole_record};
+ghost use Rattle.capnp_dynamic_readers.specs.Typed.{IsOf};
+ghost use Rattle.capnp_diffs.specs.Found.{AreFieldsFound, HaveOneNumber, IsPartFound, IsRecordFound, IsSwitchFound, IsUnionFound, whole_part, whole_record};
 
 use crate::change::{Change, put_change};
 use crate::leaves::is_same_leaf;
@@ -24,7 +25,9 @@ use std::alloc::Global;
 /// What a slot of the data section has.
 fn read_slot<'a>(field: Field<'a>, reader: StructReader<'a>) -> Result<Value<'a>>
     requires number { is_pointer (typed_of field).type ≡ false }
-    ensures { IfOk result (λ v. value_seen v ≡ whole_part (set_of (field_schema field.entry)) reader.entry (typed_of field.entry)) }
+    ensures seen { IfOk result (λ v. value_seen v ≡ whole_part (set_of (field_schema field.entry)) reader.entry (typed_of field.entry)) }
+    ensures typed { IfOk result (IsOf (set_of (field_schema field.entry)) (typed_of field.entry).type) }
+    ensures field { IsStruct (field_schema field.entry) × IsFieldOf (field_schema field.entry) (index_of field.entry) field.entry }
 {
     let schema = field.get_containing_struct();
     dynamic_struct::Reader::new(reader, schema).get(field)
@@ -137,7 +140,9 @@ fn check_unknown<'a>(
     schema: StructSchema<'a>,
     old: &StructReader<'a>,
     new: &StructReader<'a>,
-) -> Result<()> {
+) -> Result<()>
+    ensures { OnOk result (HaveOneNumber schema.entry old.now new.now) }
+{
     let Some(first) = schema.get_discriminant() else {
         return Ok(());
     };
