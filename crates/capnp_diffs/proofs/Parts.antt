@@ -1,6 +1,6 @@
 -- A field that stands on both sides, and a member that becomes active: behind a pointer, a group, or a number.
 use Rattle.std.specs.Prelude.{option_to_list}
-use Rattle.std.proofs.Common.{ℕ, zero, suc, ◌<◌, ◌≤◌, ◌-◌, ◌+◌, ◌≡◌, ◌∙◌, refl, [], ◌∷◌, ◌++◌, List, length, take, Bool, true, false, Option, Some, None, arith, ap, ap₂, sym, subst}
+use Rattle.std.proofs.Common.{ℕ, zero, suc, ◌<◌, ◌≤◌, ◌-◌, ◌+◌, ◌≡◌, ◌∙◌, refl, [], ◌∷◌, ◌++◌, List, length, Bool, true, false, Option, Some, None, arith, ap, ap₂, sym, subst}
 use Rattle.std.proofs.lemmas.Bool.{true≢false}
 use Rattle.capnp_wire.specs.Standing.{struct_of, tree_of}
 use Rattle.capnp_wire.specs.Tree.{Tree, empty_struct, nth_tree}
@@ -44,25 +44,6 @@ use Rattle.capnp_diffs.proofs.Added.{adds_behind, adds_both}
 use Rattle.capnp_diffs.proofs.Falls.{base_least, group_falls, walk_base}
 use Rattle.capnp_diffs.proofs.Slots.{IsNoGroup, by_slot, field_no_group, field_put, field_stands}
 use Rattle.capnp_diffs.proofs.Steps.{switch_whole}
-
--- ---- the last step of a path ----
-
--- a path without the step that was added last
-pub path_left : {A : Type 0} (xs ys zs : List A) (x : A) → ys ≡ (xs ++ x ∷ []) → zs ≡ take (length ys - 1) ys → zs ≡ xs
-path_left {A = A} xs ys zs x e is = is ∙ (ap (λ us. take (length us - 1) us) e ∙ without_last xs)
-  where
-    count : {A : Type 0} (us : List A) (u : A) → length (us ++ u ∷ []) ≡ suc (length us)
-    count [] u = refl
-    count (v ∷ us) u = ap suc (count us u)
-
-    take_all : {A : Type 0} (us : List A) (u : A) → take (length us) (us ++ u ∷ []) ≡ us
-    take_all [] u = refl
-    take_all (v ∷ us) u = ap (λ ws. v ∷ ws) (take_all us u)
-
-    without_last : (us : List A) → take (length (us ++ x ∷ []) - 1) (us ++ x ∷ []) ≡ us
-    without_last us =
-        let fewer : length (us ++ x ∷ []) - 1 ≡ length us = omega (arith, count us x) in
-        ap (λ n. take n (us ++ x ∷ [])) fewer ∙ take_all us x
 
 -- ---- by the place of a field ----
 
