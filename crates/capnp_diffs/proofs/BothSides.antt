@@ -34,8 +34,8 @@ no_items [] h = refl
 no_items (x ∷ xs) h = absurd (omega (arith, h))
 
 -- a path without the step that was added last
-pub path_left : {A : Type 0} (xs ys zs : List A) (x : A) → ys ≡ (xs ++ x ∷ []) → zs ≡ take (length ys - 1) ys → zs ≡ xs
-path_left {A = A} xs ys zs x e is = is ∙ (ap (λ us. take (length us - 1) us) e ∙ without_last xs)
+pub path_left : {A : Type 0} (xs ys zs : List A) (x : A) (n : ℕ) → n ≡ length ys → ys ≡ (xs ++ x ∷ []) → zs ≡ take (n - 1) ys → zs ≡ xs
+path_left {A = A} xs ys zs x n counted e is = is ∙ (ap (λ m. take (m - 1) ys) counted ∙ (ap (λ us. take (length us - 1) us) e ∙ without_last xs))
   where
     count : (us : List A) (u : A) → length (us ++ u ∷ []) ≡ suc (length us)
     count [] u = refl
@@ -94,7 +94,7 @@ module _ (set : Schemas) (step : Step) (path : List Step) (old : List FoundChang
 -- ---- two lists of a type ----
 
 test_false : (m n : ℕ) → (m ≡ n → ⊥) → (m == n) ≡ false
-test_false m n differ = grind (differ)
+test_false m n differ = grind (arith, differ)
 
 other_length : (step : Step) (e : SchemaType) (ws : Values) (cs : List Change) → list_changes (step_seen step) e ws false cs ≡ whole_change (step_seen step) (ListType e) (value.Elements ws) ∷ []
 other_length step (StructType b g) ws cs = refl
@@ -143,7 +143,7 @@ module _ (set : Schemas) (step : Step) (path : List Step) (old new : List FoundC
 
   module _ (same : list_length (list_of l) ≡ list_length (list_of m)) where
     same_test : (list_length (list_of l) == list_length (list_of m)) ≡ true
-    same_test = grind (same)
+    same_test = grind (arith, same)
 
     -- structs, of which each is gone into
     pub structs_inside : (b g : ℕ) → StructType b g ≡ e → (inner : List Step) → inner ≡ (path ++ step ∷ []) → IsRowFound set e 0 (elements_in set l e) (elements_in set m e) inner old new →

@@ -179,9 +179,10 @@ lists::find_in_structs-loop-index-preserved t c =
     let i = c.loop-index.index in
     let source = entered_struct (list_levels c.args.old) (struct_of c.in_ok-source.source) (element_struct (list_of c.args.old) i) c.in_ok-source.ensures.read in
     let target = entered_struct (list_levels c.args.new) (struct_of c.in_ok-target.target) (element_struct (list_of c.args.new) i) c.in_ok-target.ensures.read in
+    let counted : c.find_in_record-found.new.path.len ≡ length c.find_in_record-found.new.path.items = omega (arith, c.find_in_record-found.new.path.ok.0) in
     record {
       path =
-          path_left c.loop-index.path.items c.find_in_record-found.new.path.items c.pop.new.self.items (step.Element i) (c.in_default.ensures.path ∙ c.in_ok-push.ensures.items) c.pop.ensures.rest
+          path_left c.loop-index.path.items c.find_in_record-found.new.path.items c.pop.new.self.items (step.Element i) c.find_in_record-found.new.path.len counted (c.in_default.ensures.path ∙ c.in_ok-push.ensures.items) c.pop.ensures.rest
           ∙ c.loop-index.invariant.path;
       onward = onward_next set (struct_type c.args.schema) c.args.old c.args.new c.args.path.now.items c.args.out.now.items i c.loop-index.out.items c.find_in_record-found.new.out.items
           (omega (arith, c.loop-index-test.true, c.len-index-end.ensures.length, c.requires.length)) c.requires.length
@@ -271,8 +272,10 @@ pointers::find_in_struct-find_in_record-found-requires t c =
     (omega (arith, c.decreases, schema_falls c.args.schema (struct_levels c.in-Some.target) (levels_of c.args.new) 7 c.requires lower (omega arith)), c.requires)
 
 pub pointers::find_in_struct-returns-clause-path : goal.pointers::find_in_struct-returns-clause-path
-pointers::find_in_struct-returns-clause-path t c = ok_map c.find_in_record-found.result
-    (λ same. path_left c.args.path.now.items c.find_in_record-found.new.path.items c.pop.new.self.items c.args.step (same ∙ c.in_ok-push.ensures.items) c.pop.ensures.rest)
+pointers::find_in_struct-returns-clause-path t c =
+    let counted : c.find_in_record-found.new.path.len ≡ length c.find_in_record-found.new.path.items = omega (arith, c.find_in_record-found.new.path.ok.0) in
+    ok_map c.find_in_record-found.result
+    (λ same. path_left c.args.path.now.items c.find_in_record-found.new.path.items c.pop.new.self.items c.args.step c.find_in_record-found.new.path.len counted (same ∙ c.in_ok-push.ensures.items) c.pop.ensures.rest)
     c.find_in_record-found.ensures.path
 
 pub pointers::find_in_struct-returns-clause-found : goal.pointers::find_in_struct-returns-clause-found
