@@ -7,6 +7,7 @@
 #[path = "../std/mod.rs"]
 mod rattle_std;
 
+mod diffs;
 mod edits;
 mod float_texts;
 mod floats;

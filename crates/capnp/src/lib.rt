@@ -56,6 +56,12 @@ pub mod dynamic_value {
     };
 }
 
+/// The changes from one struct to another of its schema, and the calls that make them.
+pub mod diffs {
+    pub use capnp_diffs::change::{Change, as_calls};
+    pub use capnp_diffs::diff::find_changes;
+}
+
 /// Lists that are edited, and copies along paths: where they stand in a message, in runs with calls; lists also in messages
 /// of their own, which a set takes.
 pub mod edits {

@@ -122,7 +122,7 @@ mutual
   same_structs_is es fs e = absurd (true≢false (sym e))
 
 mutual
-  same_tree_refl : (x : Tree) → same_tree x x ≡ true
+  pub same_tree_refl : (x : Tree) → same_tree x x ≡ true
   same_tree_refl tree.Null = refl
   same_tree_refl (tree.Struct xs ps) = ap₂ (λ a b. a && b) (same_bytes_refl xs) (same_trees_refl ps)
   same_tree_refl (tree.Voids n) = eq-eqb n n refl

@@ -178,7 +178,7 @@ module _ (set : Schemas) (b g : ℕ) (k : Bool) (ws : Values) (u : Union) (j : �
   if_active_leads true kept switched cs ds x y keeps switches told = keeps refl told
   if_active_leads false kept switched cs ds x y keeps switches told = switches refl told
 
-switch_whole : (set : Schemas) (j : ℕ) (t : SchemaType) (w : Value) → CanStand t w → switch_changes set j t w ≡ (whole_change (FieldNumber j) t w ∷ [])
+pub switch_whole : (set : Schemas) (j : ℕ) (t : SchemaType) (w : Value) → CanStand t w → switch_changes set j t w ≡ (whole_change (FieldNumber j) t w ∷ [])
 switch_whole set j (StructType b g) (value.Group q) stands = absurd stands
 switch_whole set j t w stands = refl
 

@@ -1,2 +1,5 @@
 pub mod Changes
+pub mod Found
 pub mod Laws
+pub mod Made
+pub mod Steps

@@ -1,5 +1,6 @@
 //! What holds of the changes from one record to another.
 ghost use Rattle.capnp_diffs.specs.Laws.{CallsMakeNew, EqualNeedNone, NoneMeansEqual};
+ghost use Rattle.capnp_diffs.specs.Made.{FoundCallsMakeNew};
 
 /// Calls that make the changes from an old record to a new one, in order, are none refused where there is room, and leave the
 /// new record.
@@ -18,4 +19,11 @@ pub fn equal_need_none()
 #[tactic(auto, using(crate::proofs::Steps::none_means_equal))]
 pub fn none_means_equal()
     ensures { NoneMeansEqual }
+{}
+
+/// The calls of changes that were found from an old record to a new one (`found`, `told` and `ready` of `find_changes`), run
+/// on the old one, leave the new one; where there is room, none is refused.
+#[tactic(auto, using(crate::proofs::Made::found_calls_make_new))]
+pub fn found_calls_make_new()
+    ensures { FoundCallsMakeNew }
 {}
