@@ -17,24 +17,19 @@ ghost use Rattle.riftcalico_core.specs.Calls.{call_read, element_of, from_of, gi
 ghost use Rattle.riftcalico_core.specs.CallsSeen.{all_seen, given_source, read_act_seen, word_value_source};
 ghost use Rattle.riftcalico_core.specs.Reads.{each_word_read};
 
+use crate::json_values::{WholeValue, is_whole, read_whole};
 use crate::words::word_at;
-use capnp_arena::arena::Arena;
 use capnp_base::introspect::{Type, TypeVariant};
 use capnp_call::calls::{Call, Op, Step};
-use capnp_dynamic_readers::dynamic_list;
 use capnp_dynamic_readers::dynamic_value::Reader as Value;
 use capnp_edit_calls::acts::Act;
 use capnp_edit_calls::change::Change;
 use capnp_edit_calls::copy::PathCopy;
 use capnp_edit_calls::edit::ListEdit;
-use capnp_from_json::error::Error as TextError;
-use capnp_json_messages::row::Row;
-use capnp_json_messages::value::read_one;
 use capnp_queries::floats::has_floats_at;
 use capnp_schema::schema::StructSchema;
 use capnp_schema::set::SchemaSet;
-use capnp_splices::read::read_list;
-use capnp_wire::error::{Error, ErrorKind, Result};
+use capnp_wire::error::Result;
 use capnp_words::call::{CallWord, WordOp, parse_call};
 use capnp_words::marked::parse_marked_value;
 use capnp_words::path::{Path, PathStep, Read as WordRead};
@@ -51,14 +46,6 @@ pub struct Unreadable {
 
 /// What words are read as, or where they can't be.
 pub type Read<T> = std::result::Result<T, Unreadable>;
-
-/// A value of a type as the element of a list, in a message of its own.
-#[derive(Drop)]
-pub struct WholeValue<'s> {
-    list: Arena,
-    element: Type,
-    schemas: &'s SchemaSet,
-}
 
 /// What a call or an edit is given.
 #[derive(Drop)]
@@ -141,14 +128,8 @@ pub(crate) fn find_given_type(schema: StructSchema<'_>, call: &CallWord) -> Opti
     }
 }
 
-/// The element of a list of one.
-fn find_whole<'a>(whole: &'a WholeValue<'_>) -> Result<Value<'a>> {
-    let list = read_list(&whole.list)?;
-    dynamic_list::Reader::new(list, whole.element, whole.schemas).get(0)
-}
-
-/// A struct or list by its JSON text, or the place in its word where it can't be read.
-fn read_whole<'s>(
+/// A struct or a list by its JSON text, or the place in its word where it can't be read. Refused with `OutOfMemory` alone.
+fn read_json_value<'s>(
     alloc: Global,
     schemas: &'s SchemaSet,
     target: Type,
@@ -156,31 +137,14 @@ fn read_whole<'s>(
     value: &[u8],
     place: usize,
 ) -> Result<std::result::Result<GivenValue<'s>, u128>> {
-    let row = Row {
-        schemas,
-        element: target,
-        is_float: floats,
-    };
-    let list = match read_one(alloc, row, value, true) {
-        Ok(list) => list,
-        Err(TextError::Refused(refusal)) => {
-            return Ok(Err(place as u128 + refusal.place as u128));
-        }
-        Err(_) => return Err(Error::from(ErrorKind::OutOfMemory)),
-    };
-    let whole = WholeValue {
-        list,
-        element: target,
-        schemas,
-    };
-    if find_whole(&whole).is_err() {
-        return Ok(Err(place as u128));
+    match read_whole(alloc, schemas, target, floats, value)? {
+        Ok(whole) => Ok(Ok(GivenValue::Whole(whole))),
+        Err(inner) => Ok(Err(place as u128 + inner as u128)),
     }
-    Ok(Ok(GivenValue::Whole(whole)))
 }
 
 /// A value that is no struct and no list, or the place in its word where it can't be read.
-fn read_plain<'s>(
+fn read_plain_value<'s>(
     alloc: Global,
     schemas: &'s SchemaSet,
     target: Type,
@@ -208,12 +172,10 @@ fn read_given_value<'s>(
         return Ok(Ok(GivenValue::Plain(PlainValue::Void)));
     };
     let schemas = schema.get_set();
-    match target.which() {
-        TypeVariant::Struct(_) | TypeVariant::List(_) => {
-            read_whole(alloc, schemas, target, floats, value, place)
-        }
-        _ => read_plain(alloc, schemas, target, floats, value, place),
+    if is_whole(target.which()) {
+        return read_json_value(alloc, schemas, target, floats, value, place);
     }
+    read_plain_value(alloc, schemas, target, floats, value, place)
 }
 
 /// The value that a call or an edit is given under a type, or the place in its word where that can't be read. A void where
@@ -355,7 +317,7 @@ fn value_of<'c>(value: &'c GivenValue<'_>) -> Result<Value<'c>>
 {
     match value {
         GivenValue::Plain(plain) => Ok(plain.as_reader()),
-        GivenValue::Whole(whole) => find_whole(whole),
+        GivenValue::Whole(whole) => whole.as_reader(),
     }
 }
 
