@@ -156,7 +156,7 @@ fn lists_are_edited(rt: HostRuntime) -> Result<(), Fail> {
     rows_are_so(&rt, rt.alloc(), EDITED)
 }
 
-/// Structs and lists that are given as JSON texts, and texts that can't be read, with the first byte that can't stand.
+/// Structs and lists that are given as JSON texts.
 const GIVEN: &str = "\
 # lists of numbers and of structs
 :new
@@ -197,61 +197,6 @@ const GIVEN: &str = "\
 !5: get items.1.a = 4
 !8: get bytes = [1 elements]
 !9: get itemz: refused: 20 FieldNotFound in Lists; near: items
-
-# a struct has no such field
-:new
-:Lists
-:set items [{\"a\":1},{\"b\":2}]
-<
-=2
-!1: set items [{\"a\":1},{\"b\":2}]: can't be read at 20; wanted: a JSON array
-
-# a number is past its type
-:patch
-:Lists
-:append items {\"a\":65536}
-<
-=2
-!1: append items {\"a\":65536}: can't be read at 18; wanted: a JSON object
-
-# a field is given twice
-:new
-:Lists
-:get t
-:insert items.0 {\"a\":1,\"a\":2}
-<
-=2
-!2: insert items.0 {\"a\":1,\"a\":2}: can't be read at 23; wanted: a JSON object
-
-# an object is no list, null is none, and neither is a word
-:new
-:Lists
-:set items {\"a\":1}
-<
-=2
-!1: set items {\"a\":1}: can't be read at 10; wanted: a JSON array
-
-:new
-:Lists
-:set items  null
-<
-=2
-!1: set items  null: can't be read at 11; wanted: a JSON array
-
-:new
-:Lists
-:append items 1
-<
-=2
-!1: append items 1: can't be read at 13; wanted: a JSON object
-
-# a text that is no JSON
-:new
-:Lists
-:set bytes [1,2
-<
-=2
-!1: set bytes [1,2: can't be read at 15; wanted: a JSON array
 
 # where the path leads to nothing no value is looked at
 :new
