@@ -1,7 +1,9 @@
 //! Calls and edits that words say, under a struct of a set.
-ghost use Rattle.std.specs.Prelude.{[], ◌≡◌, ◌∷◌, ◌+◌, ◌<◌, IfErr, IfOk, length, map};
+ghost use Rattle.std.specs.Prelude.{[], ◌≡◌, ◌∷◌, ◌+◌, ◌<◌, IfErr, IfOk, IfSome, true, length, map};
 ghost use Rattle.std.specs.Option.{option_map, option_and_then};
 ghost use Rattle.capnp_device.specs.declared.error.ErrorKind.TheVariants.{OutOfMemory};
+ghost use Rattle.capnp_schema.specs.Accepted.{NamesEntries};
+ghost use Rattle.capnp_schema.specs.Entries.{lists_seen};
 ghost use Rattle.capnp_schema.specs.StructHandles.{IsStruct, number_of, set_of};
 ghost use Rattle.capnp_schema.specs.Types.{seen_type};
 ghost use Rattle.capnp_records.specs.Run.{root_type};
@@ -13,9 +15,10 @@ ghost use Rattle.capnp_words.specs.Calls.{call_at};
 ghost use Rattle.capnp_words.specs.Reads.{read_as};
 ghost use Rattle.capnp_words.specs.Seen as said;
 ghost use Rattle.capnp_words.specs.Targets.{type_along};
-ghost use Rattle.riftcalico_core.specs.Calls.{call_read, element_of, from_of, given_type, member_asked, source_given, source_read, split};
-ghost use Rattle.riftcalico_core.specs.CallsSeen.{all_seen, given_source, read_act_seen, word_value_source};
-ghost use Rattle.riftcalico_core.specs.Reads.{each_word_read};
+ghost use Rattle.riftcalico_core.specs.Calls.{IsCallRead, IsSourceGiven, IsSourceRead, element_of, from_of, given_type, member_asked, plain_read, split};
+ghost use Rattle.riftcalico_core.specs.CallsSeen.{all_seen, given_source, given_value_source, read_act_seen};
+ghost use Rattle.riftcalico_core.specs.JsonValues.{IsWholeGiven, is_whole};
+ghost use Rattle.riftcalico_core.specs.Reads.{AreRead, each_word_read};
 
 use crate::json_values::{WholeValue, is_whole, read_whole};
 use crate::words::word_at;
@@ -136,7 +139,13 @@ fn read_json_value<'s>(
     floats: bool,
     value: &[u8],
     place: usize,
-) -> Result<std::result::Result<GivenValue<'s>, u128>> {
+) -> Result<std::result::Result<GivenValue<'s>, u128>>
+    requires entries { NamesEntries (lists_seen schemas.now) (seen_type target) }
+    requires whole { is_whole (seen_type target) ≡ true }
+    ensures read { IfOk result (λ r. IsWholeGiven (lists_seen schemas.now) floats (seen_type target) value.now place
+        (read_as given_value_source r)) }
+    ensures memory { IfErr result (λ e. e.kind ≡ OutOfMemory) }
+{
     match read_whole(alloc, schemas, target, floats, value)? {
         Ok(whole) => Ok(Ok(GivenValue::Whole(whole))),
         Err(inner) => Ok(Err(place as u128 + inner as u128)),
@@ -151,7 +160,11 @@ fn read_plain_value<'s>(
     floats: bool,
     value: &[u8],
     place: usize,
-) -> Result<std::result::Result<GivenValue<'s>, u128>> {
+) -> Result<std::result::Result<GivenValue<'s>, u128>>
+    ensures read { IfOk result (λ r. read_as given_value_source r
+        ≡ plain_read (lists_seen schemas.now) floats (seen_type target) value.now place) }
+    ensures memory { IfErr result (λ e. e.kind ≡ OutOfMemory) }
+{
     match parse_marked_value(alloc, schemas, target, floats, value)? {
         Ok(value) => Ok(Ok(GivenValue::Plain(value))),
         Err(inner) => Ok(Err(place as u128 + inner as u128)),
@@ -167,7 +180,13 @@ fn read_given_value<'s>(
     floats: bool,
     value: &[u8],
     place: usize,
-) -> Result<std::result::Result<GivenValue<'s>, u128>> {
+) -> Result<std::result::Result<GivenValue<'s>, u128>>
+    requires stands { IsStruct schema }
+    requires entries { IfSome target (λ t. NamesEntries (set_of schema) (seen_type t)) }
+    ensures read { IfOk result (λ r. IsSourceRead (set_of schema.entry) floats (option_map seen_type target) value.now place
+        (read_as given_value_source r)) }
+    ensures memory { IfErr result (λ e. e.kind ≡ OutOfMemory) }
+{
     let Some(target) = target else {
         return Ok(Ok(GivenValue::Plain(PlainValue::Void)));
     };
@@ -187,9 +206,10 @@ fn read_value<'s>(
     target: Option<Type>,
     floats: bool,
 ) -> Result<std::result::Result<GivenValue<'s>, u128>>
-    requires { IsStruct schema }
-    ensures read { IfOk result (λ r. read_as word_value_source r
-        ≡ source_given (set_of schema.entry) floats (option_map seen_type target) (said.op_text_seen op.now)) }
+    requires stands { IsStruct schema }
+    requires entries { IfSome target (λ t. NamesEntries (set_of schema) (seen_type t)) }
+    ensures read { IfOk result (λ r. IsSourceGiven (set_of schema.entry) floats (option_map seen_type target)
+        (said.op_text_seen op.now) (read_as given_value_source r)) }
     ensures memory { IfErr result (λ e. e.kind ≡ OutOfMemory) }
 {
     match op {
@@ -262,9 +282,8 @@ fn read_call<'s, 'c>(
     word: &'c CallWord,
 ) -> Result<std::result::Result<ReadCall<'s, 'c>, u128>>
     requires { IsStruct schema }
-    ensures read { IfOk result (λ r. read_as read_act_seen r
-        ≡ call_read (set_of schema.entry) (root_type (set_of schema.entry) (number_of schema.entry))
-        (said.call_text_seen word.now)) }
+    ensures read { IfOk result (λ r. IsCallRead (set_of schema.entry) (root_type (set_of schema.entry) (number_of schema.entry))
+        (said.call_text_seen word.now) (read_as read_act_seen r)) }
     ensures memory { IfErr result (λ e. e.kind ≡ OutOfMemory) }
 {
     let steps = steps_of(alloc, &word.path)?;
@@ -294,9 +313,8 @@ pub fn read_all_calls<'s, 'c>(
     words: &'c [CallWord],
 ) -> Result<Read<Vec<ReadCall<'s, 'c>>>>
     requires { IsStruct schema }
-    ensures read { IfOk result (λ r. all_seen read_act_seen r
-        ≡ each_word_read (call_read (set_of schema.entry) (root_type (set_of schema.entry) (number_of schema.entry))) 0
-        (map said.call_text_seen words.now)) }
+    ensures read { IfOk result (λ r. AreRead (IsCallRead (set_of schema.entry) (root_type (set_of schema.entry)
+        (number_of schema.entry))) 0 (map said.call_text_seen words.now) (all_seen read_act_seen r)) }
     ensures inside { IfOk result (λ r. IfErr r (λ at. at.index < length words.now)) }
     ensures memory { IfErr result (λ e. e.kind ≡ OutOfMemory) }
 {
@@ -313,7 +331,8 @@ pub fn read_all_calls<'s, 'c>(
 /// A value as a call is given it.
 #[tactic(auto, using(crate::proofs::PlainGiven::plain_given))]
 fn value_of<'c>(value: &'c GivenValue<'_>) -> Result<Value<'c>>
-    ensures { source_of result ≡ word_value_source value.now }
+    ensures source { IfOk result (λ v. source_of v ≡ given_value_source value.now) }
+    ensures memory { IfErr result (λ e. e.kind ≡ OutOfMemory) }
 {
     match value {
         GivenValue::Plain(plain) => Ok(plain.as_reader()),
