@@ -19,3 +19,4 @@ pub mod DataBack
 pub mod IntegersBack
 pub mod HolderReads
 pub mod OneReads
+pub mod OneCopied
