@@ -16,7 +16,8 @@ use Rattle.capnp_words.specs.Calls.{CallOp, CallText}
 use Rattle.capnp_words.specs.Reads.{Read, read_as}
 use Rattle.capnp_words.specs.Targets.{type_along}
 use Rattle.capnp_words.specs.Marked.{marked_value_by_word}
-use Rattle.riftcalico_core.specs.JsonValues.{IsWholeGiven, is_whole}
+use Rattle.capnp_json_messages.specs.Ones.{is_whole}
+use Rattle.riftcalico_core.specs.JsonValues.{IsWholeGiven}
 
 -- what is given to a set, by the type of what is set
 abbrev pub source_taken : SchemaType → Value → Source

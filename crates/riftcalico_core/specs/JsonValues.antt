@@ -1,37 +1,24 @@
 -- Structs and lists that words give as JSON texts.
-use Rattle.std.specs.Prelude.{ℕ, ◌+◌, ◌-◌, ◌≡◌, Bool, true, false, ◌&&◌, None, List, [], ◌∷◌, length, Ok, Err}
+use Rattle.std.specs.Prelude.{ℕ, ◌+◌, ◌-◌, ◌≡◌, Bool, true, false, ◌&&◌, List, [], ◌∷◌, length, Ok, Err}
 use Rattle.capnp_wire.specs.Depth.{IsShallow}
-use Rattle.capnp_wire.specs.Reading.{element_pointer, element_struct}
 use Rattle.capnp_wire.specs.Tree.{Tree}
 use Rattle.capnp_arena.specs.Message.{message_tree}
 use Rattle.capnp_schema.specs.Schema.{Schemas}
-use Rattle.capnp_schema.specs.Types.{ListType, SchemaType, StructType, seen_type}
-use Rattle.capnp_records.specs.Call.{ListSource, Source, StructSource, VoidSource}
-use Rattle.capnp_records.specs.Given.{Copies, CopiesGroup, Fails, Given, Gives, copy_refusal, given_element}
-use Rattle.capnp_records.specs.Record.{Left, MoreValues, NoValues, Value}
+use Rattle.capnp_schema.specs.Types.{SchemaType, seen_type}
+use Rattle.capnp_records.specs.Call.{Source}
+use Rattle.capnp_records.specs.Given.{given_element}
+use Rattle.capnp_records.specs.Record.{MoreValues, NoValues, Value}
 use Rattle.capnp_json_text.specs.Readings.{after_blanks}
 use Rattle.capnp_json_fields.specs.Marks.{has_float_base}
 use Rattle.capnp_from_json.specs.declared.error.RefusalKind.{RefusalKind}
 use Rattle.capnp_json_messages.specs.Holders.{text_element}
+use Rattle.capnp_json_messages.specs.Ones.{IsCopyOf, element_source}
 use Rattle.capnp_json_messages.specs.Put.{IsListOf}
 use Rattle.capnp_json_messages.specs.Walks.{AreRules, IsRead}
 use Rattle.capnp_words.specs.Reads.{Read}
 use Rattle.riftcalico_core.specs.declared.json_values.WholeValue.{WholeValue}
 
--- whether values of a type are given so
-abbrev pub is_whole : SchemaType → Bool
-is_whole (StructType b g) = true
-is_whole (ListType e) = true
-is_whole t = false
-
 -- ---- what is given ----
-
--- a set takes a copy of a value, which nothing refuses
-abbrev pub IsCopyOf : Given → Value → Type 0
-IsCopyOf (Copies x past v) w = (copy_refusal x ≡ None) × (past ≡ false) × (v ≡ w)
-IsCopyOf (Gives v) w = ⊥
-IsCopyOf (CopiesGroup l s b) w = ⊥
-IsCopyOf (Fails kind) w = ⊥
 
 -- a value of the type, for which a text stands by names that the type has, as an element of a list
 pub record IsWholeRead (set : Schemas) (floats : Bool) (t : SchemaType) (text : List ℕ) (s : Source) : Type 0 where
@@ -39,12 +26,7 @@ pub record IsWholeRead (set : Schemas) (floats : Bool) (t : SchemaType) (text : 
   pub is : IsRead set true (text_element t (floats && has_float_base t) text) value
   pub copies : IsCopyOf (given_element set t s) value
 
--- the element of a list of one under its type, whose reader has 64 levels
-abbrev pub element_source : SchemaType → Tree → Source
-element_source (StructType b g) x = StructSource (Left 62) (element_struct x 0) b
-element_source (ListType e) x = ListSource (Left 62) (element_pointer x 0 63) e
-element_source t x = VoidSource
-
+-- it stands in a list of one
 abbrev pub whole_source : WholeValue → Source
 whole_source w = element_source (seen_type w.element) (message_tree w.list)
 

@@ -17,7 +17,8 @@ ghost use Rattle.capnp_words.specs.Seen as said;
 ghost use Rattle.capnp_words.specs.Targets.{type_along};
 ghost use Rattle.riftcalico_core.specs.Calls.{IsCallRead, IsSourceGiven, IsSourceRead, element_of, from_of, given_type, member_asked, plain_read, split};
 ghost use Rattle.riftcalico_core.specs.CallsSeen.{all_seen, given_source, given_value_source, read_act_seen};
-ghost use Rattle.riftcalico_core.specs.JsonValues.{IsWholeGiven, is_whole};
+ghost use Rattle.capnp_json_messages.specs.Ones.{is_whole};
+ghost use Rattle.riftcalico_core.specs.JsonValues.{IsWholeGiven};
 ghost use Rattle.riftcalico_core.specs.Reads.{AreRead, each_word_read};
 
 use crate::json_values::{WholeValue, is_whole, read_whole};

@@ -7,7 +7,8 @@ ghost use Rattle.capnp_schema.specs.Entries.{lists_seen};
 ghost use Rattle.capnp_schema.specs.Types.{seen_type, seen_variant};
 ghost use Rattle.capnp_json_fields.specs.Marks.{has_float_base};
 ghost use Rattle.capnp_slots.specs.SetValues.{source_of};
-ghost use Rattle.riftcalico_core.specs.JsonValues.{IsWholeRead, IsWholeUnread, begins_whole, is_whole, whole_source};
+ghost use Rattle.capnp_json_messages.specs.Ones.{is_whole};
+ghost use Rattle.riftcalico_core.specs.JsonValues.{IsWholeRead, IsWholeUnread, begins_whole, whole_source};
 
 use capnp_arena::arena::Arena;
 use capnp_base::introspect::{Type, TypeVariant};
