@@ -20,3 +20,4 @@ pub mod IntegersBack
 pub mod HolderReads
 pub mod OneReads
 pub mod OneCopied
+pub mod OneRead
