@@ -22,10 +22,16 @@ as_listed size (tree.Numbers w bytes) h = ap (λ (q : Bool). cond q (Ok (tree.Nu
 as_listed size (tree.Pointers ps) h = ap (λ (q : Bool). cond q (Ok (tree.Pointers ps)) (Err WrongElementSize)) h
 as_listed size (tree.Composite d p es) h = ap (λ (q : Bool). cond q (Ok (tree.Composite d p es)) (Err WrongElementSize)) h
 
-same_ok : {x y : Tree} → Ok {B = ErrorKind} x ≡ Ok y → x ≡ y
+abbrev good : Tree → Result Tree ErrorKind
+good x = Ok x
+
+abbrev bad : ErrorKind → Result Tree ErrorKind
+bad k = Err k
+
+same_ok : {x y : Tree} → good x ≡ good y → x ≡ y
 same_ok e = cc
 
-no_error : {k : ErrorKind} {x : Tree} → Err {A = Tree} k ≡ Ok x → ⊥
+no_error : {k : ErrorKind} {x : Tree} → bad k ≡ good x → ⊥
 no_error e = cc
 
 pub listed_ok : (r : Result ListReader Error) (x : Tree) → list_read r ≡ Ok x → IfOk r (λ l. list_of l ≡ x)
