@@ -18,6 +18,9 @@ faulted f v kind e h = only_cause kind (f v) (sym (ap f h) ∙ e)
 pub fault_text : (v : Value) (kind : ErrorKind) → value.Fault kind ≡ v → HasCause (text v) kind
 fault_text v kind = faulted text v kind refl
 
+pub fault_name : (v : Value) (kind : ErrorKind) → value.Fault kind ≡ v → HasCause (name v) kind
+fault_name v kind = faulted name v kind refl
+
 pub fault_blob : (v : Value) (kind : ErrorKind) → value.Fault kind ≡ v → HasCause (blob v) kind
 fault_blob v kind = faulted blob v kind refl
 
@@ -31,20 +34,6 @@ fault_list t f v kind = faulted (list t f) v kind refl
 pub unless_listed : {A : Type 0} (t : SchemaType) (f : Value → SetRead A) (v : Value) → unless_fault (list t f) v ≡ list t f v
 unless_listed t f (value.Fault kind) = refl
 unless_listed t f v = refl
-
--- a name that can't be read as a text has the text's causes
-pub name_cause : (v : Value) (kind : ErrorKind) → HasCause (text v) kind → HasCause (name v) kind
-unfolding HasCause
-name_cause (value.Text bytes) kind h = absurd h
-name_cause v kind h = h
-
--- and one that is read as a text is that text's bytes
-pub name_from : (v : Value) (bytes : List ℕ) → text v ≡ Ok bytes → name v ≡ name_meant bytes
-name_from (value.Text b) bytes e = ap name_meant (same b bytes e)
-  where
-    same : (b bytes : List ℕ) → text (value.Text b) ≡ Ok bytes → b ≡ bytes
-    same b bytes e = cc
-name_from v bytes e = cc
 
 pub utf8_name : (bytes : List ℕ) → IsUtf8 bytes → name_meant bytes ≡ Ok bytes
 utf8_name bytes utf8 = go (is_utf8 bytes) (is_utf8-from_IsUtf8 bytes utf8)

@@ -3,16 +3,12 @@ pub mod Bases
 pub mod Caused
 pub mod Elements
 pub mod Faults
-pub mod FieldsSeen
 pub mod Generics
 pub mod LawsOfSets
 pub mod ListsRead
 pub mod ListsWithin
-pub mod MembersSeen
 pub mod MessageKinds
-pub mod NumbersSeen
-pub mod PointersMet
-pub mod PointersSeen
+pub mod PartsRead
 pub mod RowsRead
 pub mod RowsSets
 pub mod SetKinds

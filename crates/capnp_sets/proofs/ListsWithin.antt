@@ -1,5 +1,5 @@
 -- What a root's record is refused for, said of the bytes; and that it isn't for a limit.
-use Rattle.std.proofs.Common.{◌≡◌, ◌≢◌, ◌≤◌, ◌<◌, ◌∙◌, ap, arith, inl, subst, sym, List, ℕ, Ok, Err, Result, IfErr, IfOk}
+use Rattle.std.proofs.Common.{◌≡◌, ◌≢◌, ◌≤◌, ◌<◌, ◌∙◌, ap, arith, subst, sym, List, ℕ, Ok, Err, Result, IfErr, IfOk}
 use Rattle.std.proofs.lemmas.Bool.{true≢false}
 use Rattle.capnp_device.specs.declared.error.Error.{Error}
 use Rattle.capnp_device.specs.declared.error.ErrorKind.{ErrorKind}

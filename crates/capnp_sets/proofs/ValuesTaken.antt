@@ -1,5 +1,5 @@
 -- Parts of a set, as a loop takes their values from an allowance: what it has left of them.
-use Rattle.std.proofs.Common.{ℕ, zero, suc, ◌+◌, ◌<◌, ◌≤◌, ◌≡◌, ◌∙◌, ap, arith, refl, subst, List, [], ◌∷◌, Some, drop, length, map}
+use Rattle.std.proofs.Common.{ℕ, zero, suc, ◌+◌, ◌<◌, ◌≤◌, ◌≡◌, arith, refl, subst, List, [], ◌∷◌, Some, drop, length, map}
 use Rattle.std.specs.Prelude.{slice_get}
 use Rattle.capnp_wire.specs.Steps.Unfolding.{IsLeft}
 use Rattle.capnp_sets.specs.Unfolded.{total}

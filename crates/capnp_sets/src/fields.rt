@@ -7,10 +7,10 @@ ghost use Rattle.capnp_sets.specs.Causes.{HasCause};
 ghost use Rattle.capnp_sets.specs.Fields.{field_of, kind_by, node_meant, slot_of};
 ghost use Rattle.capnp_sets.specs.Steps.Handles.{meta_record_in};
 
-use crate::numbers::{bool_at, u16_at, u32_at, u64_at};
-use crate::parts::{FIELD, NODE, SLOT, field_member, name_at};
+use crate::parts::{FIELD, MetaSet, NODE, SLOT, field_member, name_at};
 use crate::rows::{Context, FromRecord, list_read};
 use crate::values::value_at;
+use capnp_known::numbers::{bool_at, u16_at, u32_at, u64_at};
 use capnp_schema::record::{AnnotationRecord, FieldKind, FieldRecord, NodeRecord, StructRecord};
 use capnp_wire::StructReader;
 use capnp_wire::error::{Error, ErrorKind, Result};
@@ -23,7 +23,7 @@ fn read_slot(alloc: Global, reader: &StructReader<'_>) -> Result<FieldKind>
     ensures read { IfOk result (λ k. slot_of (meta_record_in 3 reader.now) ≡ Ok (seen_kind k)) }
     ensures refused { IfErr result (λ e. e.kind ≢ OutOfMemory → HasCause (slot_of (meta_record_in 3 reader.now)) e.kind) }
 {
-    let offset = u32_at(reader, SLOT, 0, 1);
+    let offset = u32_at::<MetaSet>(reader, SLOT, 0, 1);
     let default = value_at(alloc, reader, SLOT, 1, 2)?;
     Ok(FieldKind::Slot { offset, default })
 }
@@ -46,7 +46,7 @@ fn read_kind(alloc: Global, reader: &StructReader<'_>) -> Result<FieldKind>
         return read_slot(alloc, reader);
     }
     if member == 4 {
-        let node = u32_at(reader, FIELD, 4, 1);
+        let node = u32_at::<MetaSet>(reader, FIELD, 4, 1);
         return Ok(FieldKind::Group { node });
     }
     Err(Error {
@@ -61,7 +61,7 @@ fn read_field(context: &Context<'_>, reader: &StructReader<'_>) -> Result<FieldR
     ensures read { IfOk result (λ f. field_of (meta_record_in 2 reader.now) ≡ Ok (seen_field f)) }
     ensures refused { IfErr result (λ e. e.kind ≢ OutOfMemory → HasCause (field_of (meta_record_in 2 reader.now)) e.kind) }
 {
-    let discriminant_value = u16_at(reader, FIELD, 0, 0, 65_535);
+    let discriminant_value = u16_at::<MetaSet>(reader, FIELD, 0, 0, 65_535);
     let name = name_at(context.alloc, reader, FIELD, 1, 0)?;
     let annotations = list_read::<AnnotationRecord>(context, reader, FIELD, 2, 1)?;
     let kind = read_kind(context.alloc, reader)?;
@@ -94,12 +94,12 @@ fn read_node(context: &Context<'_>, reader: &StructReader<'_>) -> Result<NodeRec
     ensures read { IfOk result (λ n. node_meant (meta_record_in 1 reader.now) ≡ Ok (seen_node n)) }
     ensures refused { IfErr result (λ e. e.kind ≢ OutOfMemory → HasCause (node_meant (meta_record_in 1 reader.now)) e.kind) }
 {
-    let id = u64_at(reader, NODE, 0, 0);
-    let data_word_count = u16_at(reader, NODE, 1, 4, 0);
-    let pointer_count = u16_at(reader, NODE, 2, 5, 0);
-    let discriminant_count = u16_at(reader, NODE, 3, 6, 0);
-    let is_group = bool_at(reader, NODE, 4, 112);
-    let discriminant_offset = u32_at(reader, NODE, 5, 4);
+    let id = u64_at::<MetaSet>(reader, NODE, 0, 0);
+    let data_word_count = u16_at::<MetaSet>(reader, NODE, 1, 4, 0);
+    let pointer_count = u16_at::<MetaSet>(reader, NODE, 2, 5, 0);
+    let discriminant_count = u16_at::<MetaSet>(reader, NODE, 3, 6, 0);
+    let is_group = bool_at::<MetaSet>(reader, NODE, 4, 112);
+    let discriminant_offset = u32_at::<MetaSet>(reader, NODE, 5, 4);
     let display_name = name_at(context.alloc, reader, NODE, 6, 0)?;
     let annotations = list_read::<AnnotationRecord>(context, reader, NODE, 7, 1)?;
     let fields = list_read::<FieldRecord>(context, reader, NODE, 8, 2)?;

@@ -8,7 +8,6 @@ mod fields;
 pub mod laws;
 mod lists;
 pub mod message;
-mod numbers;
 mod parts;
 mod rows;
 pub mod sets;

@@ -6,11 +6,11 @@ ghost use Rattle.capnp_sets.specs.Causes.{HasCause};
 ghost use Rattle.capnp_sets.specs.Steps.Handles.{meta_record_in, values_in};
 ghost use Rattle.capnp_sets.specs.Lists.{brand_of, enum_meant, enumerant_of};
 
-use crate::numbers::{u32_at, u64_at};
-use crate::parts::{BRAND, ENUM, ENUMERANT, name_at};
+use crate::parts::{BRAND, ENUM, ENUMERANT, MetaSet, name_at};
 use crate::rows::{Context, FromRecord, list_read};
 use crate::types::type_lists_at;
 use capnp_base::introspect::Type;
+use capnp_known::numbers::{u32_at, u64_at};
 use capnp_schema::record::{
     AnnotationRecord, AnnotationTypes, BrandRecord, EnumRecord, EnumerantRecord,
 };
@@ -25,7 +25,7 @@ fn read_brand(context: &Context<'_>, reader: &StructReader<'_>) -> Result<BrandR
     ensures refused { IfErr result (λ e. e.kind ≢ OutOfMemory
         → HasCause (brand_of (values_in context.now.brands) (meta_record_in 6 reader.now)) e.kind) }
 {
-    let node = u32_at(reader, BRAND, 0, 0);
+    let node = u32_at::<MetaSet>(reader, BRAND, 0, 0);
     let field_types = list_read::<Type>(context, reader, BRAND, 1, 0)?;
     let own = list_read::<Type>(context, reader, BRAND, 2, 1)?;
     let children = type_lists_at(context, reader, BRAND, 3, 2)?;
@@ -84,7 +84,7 @@ fn read_enum(context: &Context<'_>, reader: &StructReader<'_>) -> Result<EnumRec
     ensures refused { IfErr result (λ e. e.kind ≢ OutOfMemory
         → HasCause (enum_meant (values_in context.now.brands) (meta_record_in 8 reader.now)) e.kind) }
 {
-    let id = u64_at(reader, ENUM, 0, 0);
+    let id = u64_at::<MetaSet>(reader, ENUM, 0, 0);
     let display_name = name_at(context.alloc, reader, ENUM, 1, 0)?;
     let annotations = list_read::<AnnotationRecord>(context, reader, ENUM, 2, 1)?;
     let enumerants = list_read::<EnumerantRecord>(context, reader, ENUM, 3, 2)?;

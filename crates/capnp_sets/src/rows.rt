@@ -9,7 +9,8 @@ ghost use Rattle.capnp_sets.specs.Causes.{HasCause, SetRead};
 ghost use Rattle.capnp_sets.specs.Steps.Handles.{IsMetaFieldActive, IsMetaSlot, list_in, meta_record_in, values_in};
 ghost use Rattle.capnp_sets.specs.Parts.{meta_read_at, structs};
 
-use crate::parts::{is_no_list, list_at};
+use crate::parts::MetaSet;
+use capnp_known::pointers::{is_null_list_at, list_at};
 use capnp_wire::error::Result;
 use capnp_wire::size::ElementSize;
 use capnp_wire::{ListReader, StructReader};
@@ -82,9 +83,9 @@ pub(crate) fn list_read<T: FromRecord + Drop>(
         HasCause (structs T.brand (T.of_record (values_in context.now.brands))
         (meta_read_at brand index (meta_record_in brand reader.now))) e.kind) }
 {
-    if is_no_list(&reader.get_pointer_field(place)) {
+    if is_null_list_at::<MetaSet>(reader, brand, index, place) {
         return Ok(Vec::new(context.alloc));
     }
-    let elements = list_at(reader, brand, index, place, ElementSize::InlineComposite)?;
+    let elements = list_at::<MetaSet>(reader, brand, index, place, ElementSize::InlineComposite)?;
     all_read(context, &elements)
 }

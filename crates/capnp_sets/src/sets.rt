@@ -7,13 +7,13 @@ ghost use Rattle.capnp_dynamic_readers.specs.Seen.{record_seen};
 ghost use Rattle.capnp_sets.specs.Handles.{IsMetaRecord};
 ghost use Rattle.capnp_sets.specs.Lists.{IsSchemaSetRefusal, has_cause, lists_meant};
 
-use crate::parts::{SET, list_at};
+use crate::parts::{BRAND, MetaSet, SET};
 use crate::rows::{Context, all_read, list_read};
 use capnp_dynamic_readers::dynamic_struct;
+use capnp_known::pointers::structs_at;
 use capnp_schema::record::{BrandRecord, EnumRecord, NodeRecord};
 use capnp_schema::set::SchemaSet;
 use capnp_wire::error::Result;
-use capnp_wire::size::ElementSize;
 use std::alloc::Global;
 
 /// The nodes, brands and enums that the record of a set stands for, of which `SchemaSet::new` makes a set. Missing
@@ -39,7 +39,7 @@ pub fn read_set(
     ensures refused { IfErr result (λ e. e.kind ≢ OutOfMemory → has_cause (record_seen reader.entry) e.kind) }
 {
     let sections = reader.get_sections();
-    let brand_records = list_at(&sections, SET, 1, 1, ElementSize::InlineComposite)?;
+    let brand_records = structs_at::<MetaSet>(&sections, SET, 1, 1, BRAND)?;
     let context = Context {
         alloc,
         brands: brand_records,

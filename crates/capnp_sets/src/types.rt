@@ -12,10 +12,11 @@ ghost use Rattle.capnp_sets.specs.Steps.Handles.{IsMetaFieldActive, IsMetaSlot, 
 ghost use Rattle.capnp_sets.specs.Parts.{meta_read_at};
 ghost use Rattle.capnp_sets.specs.Types.{base_type_meant, generic_in, type_lists, type_meant, types};
 
-use crate::numbers::{u16_at, u32_at};
-use crate::parts::{BRAND, TYPE, is_no_list, list_at};
+use crate::parts::{BRAND, MetaSet, TYPE};
 use crate::rows::{Context, FromRecord, MOST_ROOM, all_read};
 use capnp_base::introspect::{RawBrandedStructSchema, RawEnumSchema, Type, TypeVariant};
+use capnp_known::numbers::{u16_at, u32_at};
+use capnp_known::pointers::{is_no_list, list_at};
 use capnp_wire::error::{Error, ErrorKind, Result};
 use capnp_wire::size::ElementSize;
 use capnp_wire::{ListReader, PointerReader, StructReader};
@@ -29,7 +30,7 @@ fn generic_of(brands: &ListReader<'_>, number: u32) -> Result<u32>
         return Ok(0);
     }
     let record = brands.get_struct_element(number)?;
-    Ok(u32_at(&record, BRAND, 0, 0))
+    Ok(u32_at::<MetaSet>(&record, BRAND, 0, 0))
 }
 
 /// The type of the structs of a brand.
@@ -109,9 +110,9 @@ fn read_type(brands: &ListReader<'_>, reader: &StructReader<'_>) -> Result<Type>
     ensures read { IfOk result (λ t. type_meant (values_in brands.now) (meta_record_in 7 reader.now) ≡ Ok (seen_type t)) }
     ensures refused { IfErr result (λ e. HasCause (type_meant (values_in brands.now) (meta_record_in 7 reader.now)) e.kind) }
 {
-    let list_count = u16_at(reader, TYPE, 1, 1, 0);
-    let base = u16_at(reader, TYPE, 0, 0, 0);
-    let number = u32_at(reader, TYPE, 2, 1);
+    let list_count = u16_at::<MetaSet>(reader, TYPE, 1, 1, 0);
+    let base = u16_at::<MetaSet>(reader, TYPE, 0, 0, 0);
+    let number = u32_at::<MetaSet>(reader, TYPE, 2, 1);
     let inner = base_type(brands, base, number)?;
     Ok(lists_around(inner, list_count))
 }
@@ -180,6 +181,6 @@ pub(crate) fn type_lists_at(
         → HasCause (type_lists (values_in context.now.brands)
         (meta_read_at brand index (meta_record_in brand reader.now))) e.kind) }
 {
-    let elements = list_at(reader, brand, index, place, ElementSize::Pointer)?;
+    let elements = list_at::<MetaSet>(reader, brand, index, place, ElementSize::Pointer)?;
     type_lists(context, &elements)
 }

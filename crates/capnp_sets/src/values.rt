@@ -10,9 +10,10 @@ ghost use Rattle.capnp_sets.specs.Steps.Handles.{IsMetaFieldActive, IsMetaSlot, 
 ghost use Rattle.capnp_sets.specs.Parts.{meta_read_at, struct};
 ghost use Rattle.capnp_sets.specs.Values.{annotation_meant, list_value, value_by, value_meant};
 
-use crate::numbers::{bool_at, i8_at, i16_at, i32_at, i64_at, u8_at, u16_at, u32_at, u64_at};
-use crate::parts::{ANNOTATION, VALUE, data_at, struct_at, text_at, value_member};
+use crate::parts::{ANNOTATION, MetaSet, VALUE, value_member};
 use crate::rows::{Context, FromRecord};
+use capnp_known::numbers::{bool_at, i8_at, i16_at, i32_at, i64_at, u8_at, u16_at, u32_at, u64_at};
+use capnp_known::pointers::{data_at, struct_at, text_at};
 use capnp_schema::record::{AnnotationRecord, ValueRecord};
 use capnp_wire::StructReader;
 use capnp_wire::error::{Error, ErrorKind, Result};
@@ -29,16 +30,16 @@ fn number_value(reader: &StructReader<'_>, member: u16) -> Result<ValueRecord>
 {
     match member {
         0 => Ok(ValueRecord::Void),
-        1 => Ok(ValueRecord::Bool(bool_at(reader, VALUE, 1, 64))),
-        2 => Ok(ValueRecord::Int8(i8_at(reader, VALUE, 2, 8))),
-        3 => Ok(ValueRecord::Int16(i16_at(reader, VALUE, 3, 4))),
-        4 => Ok(ValueRecord::Int32(i32_at(reader, VALUE, 4, 2))),
-        5 => Ok(ValueRecord::Int64(i64_at(reader, VALUE, 5, 1))),
-        6 => Ok(ValueRecord::UInt8(u8_at(reader, VALUE, 6, 8))),
-        7 => Ok(ValueRecord::UInt16(u16_at(reader, VALUE, 7, 4, 0))),
-        8 => Ok(ValueRecord::UInt32(u32_at(reader, VALUE, 8, 2))),
-        9 => Ok(ValueRecord::UInt64(u64_at(reader, VALUE, 9, 1))),
-        10 => Ok(ValueRecord::Enum(u16_at(reader, VALUE, 10, 4, 0))),
+        1 => Ok(ValueRecord::Bool(bool_at::<MetaSet>(reader, VALUE, 1, 64))),
+        2 => Ok(ValueRecord::Int8(i8_at::<MetaSet>(reader, VALUE, 2, 8))),
+        3 => Ok(ValueRecord::Int16(i16_at::<MetaSet>(reader, VALUE, 3, 4))),
+        4 => Ok(ValueRecord::Int32(i32_at::<MetaSet>(reader, VALUE, 4, 2))),
+        5 => Ok(ValueRecord::Int64(i64_at::<MetaSet>(reader, VALUE, 5, 1))),
+        6 => Ok(ValueRecord::UInt8(u8_at::<MetaSet>(reader, VALUE, 6, 8))),
+        7 => Ok(ValueRecord::UInt16(u16_at::<MetaSet>(reader, VALUE, 7, 4, 0))),
+        8 => Ok(ValueRecord::UInt32(u32_at::<MetaSet>(reader, VALUE, 8, 2))),
+        9 => Ok(ValueRecord::UInt64(u64_at::<MetaSet>(reader, VALUE, 9, 1))),
+        10 => Ok(ValueRecord::Enum(u16_at::<MetaSet>(reader, VALUE, 10, 4, 0))),
         _ => unreachable!(),
     }
 }
@@ -77,21 +78,21 @@ fn pointer_value(alloc: Global, reader: &StructReader<'_>, member: u16) -> Resul
         });
     }
     if member == 11 {
-        let text = text_at(reader, VALUE, 11, 0)?;
+        let text = text_at::<MetaSet>(reader, VALUE, 11, 0)?;
         let letters = copied(alloc, text)?;
         return Ok(ValueRecord::Text(letters));
     }
     if member == 12 {
-        let data = data_at(reader, VALUE, 12, 0)?;
+        let data = data_at::<MetaSet>(reader, VALUE, 12, 0)?;
         let bytes = copied(alloc, data)?;
         return Ok(ValueRecord::Data(bytes));
     }
     if member == 13 {
-        let inner = data_at(reader, VALUE, 13, 0)?;
+        let inner = data_at::<MetaSet>(reader, VALUE, 13, 0)?;
         let words = copied(alloc, inner)?;
         return Ok(ValueRecord::Struct(words));
     }
-    let elements = data_at(reader, VALUE, 14, 0)?;
+    let elements = data_at::<MetaSet>(reader, VALUE, 14, 0)?;
     list_words(alloc, elements)
 }
 
@@ -128,7 +129,7 @@ pub(crate) fn value_at(
     ensures refused { IfErr result (λ e. e.kind ≢ OutOfMemory
         → HasCause (struct value_meant (meta_read_at brand index (meta_record_in brand reader.now))) e.kind) }
 {
-    let record = struct_at(reader, brand, index, place, VALUE)?;
+    let record = struct_at::<MetaSet>(reader, brand, index, place, VALUE)?;
     read_value(alloc, &record)
 }
 
@@ -139,7 +140,7 @@ fn read_annotation(alloc: Global, reader: &StructReader<'_>) -> Result<Annotatio
     ensures refused { IfErr result (λ e. e.kind ≢ OutOfMemory
         → HasCause (annotation_meant (meta_record_in 4 reader.now)) e.kind) }
 {
-    let id = u64_at(reader, ANNOTATION, 0, 0);
+    let id = u64_at::<MetaSet>(reader, ANNOTATION, 0, 0);
     let value = value_at(alloc, reader, ANNOTATION, 1, 0)?;
     Ok(AnnotationRecord { id, value })
 }

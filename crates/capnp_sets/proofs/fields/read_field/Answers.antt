@@ -4,6 +4,7 @@ use Rattle.std.proofs.Common.{refl}
 use Rattle.std.proofs.lemmas.Result.{err_from_is_err_and}
 use Rattle.capnp_sets.specs.Fields.{field_of}
 use Rattle.capnp_sets.proofs.AppliedReads.{cause_left, cause_right, made}
+use Rattle.capnp_sets.proofs.PartsRead.{number_there}
 use Rattle.capnp_sets.proofs.fields.read_field.Goals as goal
 
 pub returns-in_err-name-clause-refused : goal.returns-in_err-name-clause-refused
@@ -20,4 +21,4 @@ returns-in_err-kind-clause-refused c = let p = err_from_is_err_and c.from_residu
 
 pub returns-clause-read : goal.returns-clause-read
 unfolding field_of
-returns-clause-read c = made (made (made (made refl c.u16_at-discriminant_value.ensures) c.in_ok-name.ensures.read) c.in_ok-annotations.ensures.read) c.in_ok-kind.ensures.read
+returns-clause-read c = made (made (made (made refl (number_there _ _ _ c.u16_at-discriminant_value.ensures)) c.in_ok-name.ensures.read) c.in_ok-annotations.ensures.read) c.in_ok-kind.ensures.read

@@ -8,7 +8,7 @@ use Rattle.capnp_sets.specs.Steps.Handles.{meta_record_in}
 use Rattle.capnp_sets.specs.Parts.{struct}
 use Rattle.capnp_sets.proofs.AppliedReads.{made}
 use Rattle.capnp_sets.proofs.Bases.{group_kind, no_kind, other_kind, slot_kind}
-use Rattle.capnp_sets.proofs.FieldsSeen.{slot_seen}
+use Rattle.capnp_sets.proofs.PartsRead.{number_there, slot_seen}
 use Rattle.capnp_sets.proofs.fields.read_kind.Goals as goal
 
 pub returns-in_default-clause-refused : goal.returns-in_default-clause-refused
@@ -23,7 +23,7 @@ returns-then-member-eq3-clause-refused c =
     subst (λ (y : SetRead FieldKind). IfErr c.read_slot.result (λ e. e.kind ≢ OutOfMemory → HasCause y e.kind)) (sym (slot_kind _ (sym c.in-Some.ensures ∙ ap Some c.if-member-eq3.true) ∙ ap (struct slot_of) (slot_seen c.args.reader.now (sym c.in-Some.ensures ∙ ap Some c.if-member-eq3.true)))) c.read_slot.ensures.refused
 
 pub returns-then-member-eq4-clause-read : goal.returns-then-member-eq4-clause-read
-returns-then-member-eq4-clause-read c = group_kind _ (sym c.in-Some.ensures ∙ ap Some c.if-member-eq4.true) ∙ made refl c.u32_at-node.ensures
+returns-then-member-eq4-clause-read c = group_kind _ (sym c.in-Some.ensures ∙ ap Some c.if-member-eq4.true) ∙ made refl (number_there _ _ _ c.u32_at-node.ensures)
 
 pub returns-clause-refused : goal.returns-clause-refused
 returns-clause-refused c = λ _. other_kind (meta_record_in 2 c.args.reader.now) c.in-Some.member (sym c.in-Some.ensures) c.if-member-eq3.false c.if-member-eq4.false

@@ -4,6 +4,7 @@ use Rattle.std.proofs.Common.{refl}
 use Rattle.std.proofs.lemmas.Result.{err_from_is_err_and}
 use Rattle.capnp_sets.specs.Fields.{node_meant}
 use Rattle.capnp_sets.proofs.AppliedReads.{cause_left, cause_right, made}
+use Rattle.capnp_sets.proofs.PartsRead.{number_there, truth_there}
 use Rattle.capnp_sets.proofs.fields.read_node.Goals as goal
 
 pub returns-in_err-display_name-clause-refused : goal.returns-in_err-display_name-clause-refused
@@ -20,4 +21,4 @@ returns-in_err-fields-clause-refused c = let p = err_from_is_err_and c.from_resi
 
 pub returns-clause-read : goal.returns-clause-read
 unfolding node_meant
-returns-clause-read c = made (made (made (made (made (made (made (made (made refl c.u64_at-id.ensures) c.u16_at-data_word_count.ensures) c.u16_at-pointer_count.ensures) c.u16_at-discriminant_count.ensures) c.bool_at-is_group.ensures) c.u32_at-discriminant_offset.ensures) c.in_ok-display_name.ensures.read) c.in_ok-annotations.ensures.read) c.in_ok-fields.ensures.read
+returns-clause-read c = made (made (made (made (made (made (made (made (made refl (number_there _ _ _ c.u64_at-id.ensures)) (number_there _ _ _ c.u16_at-data_word_count.ensures)) (number_there _ _ _ c.u16_at-pointer_count.ensures)) (number_there _ _ _ c.u16_at-discriminant_count.ensures)) (truth_there _ _ _ c.bool_at-is_group.ensures)) (number_there _ _ _ c.u32_at-discriminant_offset.ensures)) c.in_ok-display_name.ensures.read) c.in_ok-annotations.ensures.read) c.in_ok-fields.ensures.read

@@ -3,6 +3,7 @@ use Rattle.std.proofs.Common.{refl}
 use Rattle.std.proofs.lemmas.Result.{err_from_is_err_and}
 use Rattle.capnp_sets.specs.Fields.{slot_of}
 use Rattle.capnp_sets.proofs.AppliedReads.{cause_right, made}
+use Rattle.capnp_sets.proofs.PartsRead.{number_there}
 use Rattle.capnp_sets.proofs.fields.read_slot.Goals as goal
 
 pub returns-in_err-default-clause-refused : goal.returns-in_err-default-clause-refused
@@ -11,4 +12,4 @@ returns-in_err-default-clause-refused c = let p = err_from_is_err_and c.from_res
 
 pub returns-clause-read : goal.returns-clause-read
 unfolding slot_of
-returns-clause-read c = made (made refl c.u32_at-offset.ensures) c.in_ok-default.ensures.read
+returns-clause-read c = made (made refl (number_there _ _ _ c.u32_at-offset.ensures)) c.in_ok-default.ensures.read

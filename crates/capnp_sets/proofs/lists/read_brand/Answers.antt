@@ -3,6 +3,7 @@ use Rattle.std.proofs.Common.{refl}
 use Rattle.std.proofs.lemmas.Result.{err_from_is_err_and}
 use Rattle.capnp_sets.specs.Lists.{brand_of}
 use Rattle.capnp_sets.proofs.AppliedReads.{cause_left, cause_right, made}
+use Rattle.capnp_sets.proofs.PartsRead.{number_there}
 use Rattle.capnp_sets.proofs.lists.read_brand.Goals as goal
 
 pub returns-in_err-field_types-clause-refused : goal.returns-in_err-field_types-clause-refused
@@ -19,4 +20,4 @@ returns-in_err-children-clause-refused c = let p = err_from_is_err_and c.from_re
 
 pub returns-clause-read : goal.returns-clause-read
 unfolding brand_of
-returns-clause-read c = made (made (made refl c.u32_at-node.ensures) c.in_ok-field_types.ensures.read) (made (made refl c.in_ok-own.ensures.read) c.in_ok-children.ensures.read)
+returns-clause-read c = made (made (made refl (number_there _ _ _ c.u32_at-node.ensures)) c.in_ok-field_types.ensures.read) (made (made refl c.in_ok-own.ensures.read) c.in_ok-children.ensures.read)

@@ -4,6 +4,7 @@ use Rattle.std.proofs.Common.{refl}
 use Rattle.std.proofs.lemmas.Result.{err_from_is_err_and}
 use Rattle.capnp_sets.specs.Lists.{enum_meant}
 use Rattle.capnp_sets.proofs.AppliedReads.{cause_left, cause_right, made}
+use Rattle.capnp_sets.proofs.PartsRead.{number_there}
 use Rattle.capnp_sets.proofs.lists.read_enum.Goals as goal
 
 pub returns-in_err-display_name-clause-refused : goal.returns-in_err-display_name-clause-refused
@@ -28,4 +29,4 @@ returns-in_err-children-clause-refused c = let p = err_from_is_err_and c.from_re
 
 pub returns-clause-read : goal.returns-clause-read
 unfolding enum_meant
-returns-clause-read c = made (made (made (made (made refl c.u64_at-id.ensures) c.in_ok-display_name.ensures.read) c.in_ok-annotations.ensures.read) c.in_ok-enumerants.ensures.read) (made (made refl c.in_ok-own.ensures.read) c.in_ok-children.ensures.read)
+returns-clause-read c = made (made (made (made (made refl (number_there _ _ _ c.u64_at-id.ensures)) c.in_ok-display_name.ensures.read) c.in_ok-annotations.ensures.read) c.in_ok-enumerants.ensures.read) (made (made refl c.in_ok-own.ensures.read) c.in_ok-children.ensures.read)

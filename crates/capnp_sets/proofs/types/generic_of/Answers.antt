@@ -10,6 +10,7 @@ use Rattle.capnp_sets.specs.Steps.Handles.{meta_record_in}
 use Rattle.capnp_sets.proofs.Elements.{struct_refused, struct_there}
 use Rattle.capnp_sets.proofs.Generics.{generic_here, generic_past, generic_refused}
 use Rattle.capnp_sets.proofs.RowsRead.{element_in}
+use Rattle.capnp_sets.proofs.PartsRead.{number_there}
 use Rattle.capnp_sets.proofs.types.generic_of.Goals as goal
 
 pub returns-then-number-len-clause-read : goal.returns-then-number-len-clause-read
@@ -22,4 +23,4 @@ returns-in_err-record-clause-refused c =
 pub returns-clause-read : goal.returns-clause-read
 returns-clause-read c =
     generic_here c.args.brands.now c.args.number (omega (arith, c.if-number-len.false, c.len.ensures.length)) (value.Struct (meta_record_in 6 c.in_ok-record.record)) (struct_there 6 c.args.brands.now c.args.number c.in_ok-record.record c.in_ok-record.ensures.read c.in_ok-record.ensures.levels)
-    ∙ c.u32_at.ensures
+    ∙ (number_there _ _ _ c.u32_at.ensures)

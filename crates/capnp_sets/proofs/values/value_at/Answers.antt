@@ -9,13 +9,14 @@ use Rattle.capnp_sets.specs.Causes.{HasCause}
 use Rattle.capnp_sets.specs.Parts.{struct}
 use Rattle.capnp_sets.specs.Values.{value_meant}
 use Rattle.capnp_sets.proofs.Faults.{fault_struct}
+use Rattle.capnp_sets.proofs.PartsRead.{there}
 use Rattle.capnp_sets.proofs.values.value_at.Goals as goal
 
 pub returns-in_err-record-clause-refused : goal.returns-in_err-record-clause-refused
-returns-in_err-record-clause-refused c = let p = err_from_is_err_and c.from_residual.result c.from_residual.ensures.1 in rw (p.1, p.2) (λ _. fault_struct value_meant _ _ c.in_err-record.ensures.refused)
+returns-in_err-record-clause-refused c = let p = err_from_is_err_and c.from_residual.result c.from_residual.ensures.1 in rw (p.1, p.2) (λ _. fault_struct value_meant _ _ (there _ _ _ c.in_err-record.ensures))
 
 pub returns-clause-read : goal.returns-clause-read
-returns-clause-read c = subst (λ (v : Value). IfOk c.read_value.result (λ x. struct value_meant v ≡ Ok (seen_value x))) c.in_ok-record.ensures.read c.read_value.ensures.read
+returns-clause-read c = subst (λ (v : Value). IfOk c.read_value.result (λ x. struct value_meant v ≡ Ok (seen_value x))) (there _ _ _ c.in_ok-record.ensures) c.read_value.ensures.read
 
 pub returns-clause-refused : goal.returns-clause-refused
-returns-clause-refused c = subst (λ (v : Value). IfErr c.read_value.result (λ e. e.kind ≢ OutOfMemory → HasCause (struct value_meant v) e.kind)) c.in_ok-record.ensures.read c.read_value.ensures.refused
+returns-clause-refused c = subst (λ (v : Value). IfErr c.read_value.result (λ e. e.kind ≢ OutOfMemory → HasCause (struct value_meant v) e.kind)) (there _ _ _ c.in_ok-record.ensures) c.read_value.ensures.refused

@@ -1,0 +1,3 @@
+pub mod MembersSeen
+pub mod NumbersSeen
+pub mod PointersSeen

@@ -1,0 +1,4 @@
+pub mod Facts
+pub mod Known
+pub mod Laws
+pub mod Members
