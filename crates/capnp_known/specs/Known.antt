@@ -46,7 +46,7 @@ IsActive set b i s = (is_member (field_at set b i).field ≡ false) ⊎ (which_o
 abbrev pub IsField : Schemas → ℕ → ℕ → SchemaType → Type 0
 IsField set b i t = (i < length (fields_of set b)) × ((field_at set b i).type ≡ t)
 
--- the same of a slot at a place, in units of its width or among the pointers, with its default
+-- a slot at a place, in units of its width or among the pointers, with its default
 abbrev pub IsSlot : Schemas → ℕ → ℕ → SchemaType → ℕ → SchemaValue → Type 0
 IsSlot set b i t place default = IsField set b i t × ((field_at set b i).field.kind ≡ Slot place default)
 

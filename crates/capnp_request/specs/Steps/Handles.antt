@@ -24,7 +24,7 @@ IsRequestFieldActive b i s = (is_member (field_at request_set b i).field ≡ fal
 abbrev pub IsRequestField : ℕ → ℕ → SchemaType → Type 0
 IsRequestField b i t = known.IsField request_set b i t
 
--- the same of a slot at a place, in units of its width or among the pointers, with its default
+-- a slot at a place, in units of its width or among the pointers, with its default
 abbrev pub IsRequestSlot : ℕ → ℕ → SchemaType → ℕ → SchemaValue → Type 0
 IsRequestSlot b i t place default = known.IsSlot request_set b i t place default
 
