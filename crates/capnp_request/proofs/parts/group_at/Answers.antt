@@ -1,4 +1,4 @@
--- The same struct under the group's brand is what the record holds at the field.
+-- A struct under the group's brand is what the record holds at the field.
 use Rattle.std.proofs.Common.{ap, sym, ◌∙◌, rules}
 use Rattle.capnp_records.specs.Record as value
 use Rattle.capnp_request.specs.Handles.{IsRequestRecord}
