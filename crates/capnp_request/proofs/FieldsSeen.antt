@@ -20,6 +20,7 @@ use Rattle.capnp_request.specs.Handles.{IsRequestRecord}
 use Rattle.capnp_request.specs.Parts.{request_read_at, request_struct}
 use Rattle.capnp_request.specs.RequestSet.{request_set}
 use Rattle.capnp_request.specs.Steps.Handles.{IsGroupField, IsRequestField, IsRequestFieldActive, is_group_kind}
+use Rattle.capnp_request.proofs.HandlesSeen as handles
 use Rattle.capnp_request.proofs.PartsRead.{active_in, there}
 use Rattle.capnp_request.proofs.RequestAccepted.{request_accepted}
 
@@ -42,4 +43,4 @@ module _ (set : Schemas) where
         sym (part_seen set x b i active field.0 ∙ (ap (λ v. handed_out f.field.kind (read_field set f v)) part ∙ handed_group f.field.kind (kind_default f.field.kind) f.type (record_of set (Left (struct_levels x)) (struct_of x).bytes (values_of set (struct_of x).pointers) g) group))
 
 pub group_seen : (s : StructHandle) (b i : ℕ) → IsRequestRecord b s → IsRequestFieldActive b i s → (x : StructReader) → x ≡ reader_of s → (g : ℕ) → b < length request_set.brands → IsRequestField b i (request_struct g) → IsGroupField b i → value.Struct (record_in request_set g x) ≡ request_read_at b i (record_seen s)
-group_seen s b i is active x e g inside field group = there s x b is e i (group_read request_set request_accepted x b i g (active_in s x b is e i active) inside field group)
+group_seen s b i is active x e g inside field group = there b i (handles.record_in s x b is e) (group_read request_set request_accepted x b i g (active_in s x b is e i active) inside field group)

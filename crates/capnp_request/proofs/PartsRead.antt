@@ -2,11 +2,10 @@
 use Rattle.std.proofs.Common.{ℕ, ◌≡◌, ◌∙◌, ap, inl, inr}
 use Rattle.capnp_wire.specs.declared.struct_reader.StructReader.{StructReader}
 use Rattle.capnp_records.specs.Part.{which_of}
-use Rattle.capnp_records.specs.Record.{Value}
+use Rattle.capnp_records.specs.Record.{Record, Value}
 use Rattle.capnp_dynamic_readers.specs.Handles.{reader_of}
 use Rattle.capnp_dynamic_readers.specs.Seen.{record_seen}
 use Rattle.capnp_dynamic_readers.specs.declared.dynamic_struct.Reader.{Reader as StructHandle}
-use Rattle.capnp_known.specs.Known as known
 use Rattle.capnp_known.specs.Known.{IsActive, read_at}
 use Rattle.capnp_request.specs.Handles.{IsRequestRecord}
 use Rattle.capnp_request.specs.Parts.{request_read_at}
@@ -19,6 +18,6 @@ module _ (s : StructHandle) (x : StructReader) (b : ℕ) (is : IsRequestRecord b
   active_in (inl plain) = inl plain
   active_in (inr which) = inr (ap which_of (record_in s x b is e) ∙ which)
 
-  pub there : {v : Value} → v ≡ read_at request_set b i (known.record_in request_set b x) → v ≡ request_read_at b i (record_seen s)
-  unfolding request_read_at read_at
-  there h = h ∙ ap (read_at request_set b i) (record_in s x b is e)
+pub there : (b i : ℕ) {r q : Record} {v : Value} → r ≡ q → v ≡ read_at request_set b i r → v ≡ request_read_at b i q
+unfolding request_read_at read_at
+there b i same h = h ∙ ap (read_at request_set b i) same

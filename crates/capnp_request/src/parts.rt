@@ -19,6 +19,7 @@ ghost use Rattle.capnp_dynamic_readers.specs.Reads.{element_seen};
 ghost use Rattle.capnp_dynamic_readers.specs.Seen.{answered_value, list_seen, record_seen, value_seen};
 ghost use Rattle.capnp_dynamic_readers.specs.Typed.{IsOf};
 ghost use Rattle.capnp_dynamic_readers.specs.declared.dynamic_value.Reader.TheVariants as dynamic;
+ghost use Rattle.capnp_known.specs.Known.{IsActive, record_in};
 ghost use Rattle.capnp_request.specs.Conversion.{converted_name};
 ghost use Rattle.capnp_request.specs.Handles.{IsRequestRecord};
 ghost use Rattle.capnp_request.specs.Steps.Handles.{IsRequestFieldActive, IsAlwaysRead, IsRequestField, IsRequestSlot, IsGroupField, IsListOf};
@@ -35,6 +36,7 @@ use capnp_known::known_set::KnownSet;
 use capnp_known::members::member_at;
 use capnp_known::{numbers, pointers};
 use capnp_schema::schema::StructSchema;
+use capnp_wire::StructReader;
 use capnp_wire::error::{Error, ErrorKind, Result};
 use std::alloc::Global;
 
@@ -119,6 +121,22 @@ fn sure_part<'a>(reader: dynamic_struct::Reader<'a>, brand: u32, index: u16) -> 
     value
 }
 
+/// The sections of a record, of which a field is read.
+#[inline(always)]
+fn sections_at<'a>(
+    reader: dynamic_struct::Reader<'a>,
+    brand: u32,
+    index: u16,
+) -> StructReader<'a>
+    requires record { IsRequestRecord brand reader }
+    requires active { IsRequestFieldActive brand index reader }
+    ensures record { record_in request_set brand result ≡ record_seen reader.entry }
+    ensures active { IsActive request_set brand index result }
+{
+    let (_brand, _index) = (brand, index);
+    reader.get_sections()
+}
+
 /// A `u8` whose default is 0, at an offset in units of its size.
 #[inline(always)]
 pub(crate) fn u8_at(reader: dynamic_struct::Reader<'_>, brand: u32, index: u16, offset: u32) -> u8
@@ -127,7 +145,7 @@ pub(crate) fn u8_at(reader: dynamic_struct::Reader<'_>, brand: u32, index: u16, 
     requires active { IsRequestFieldActive brand index reader }
     ensures { value.Number (pos result) ≡ request_read_at brand index (record_seen reader.entry) }
 {
-    let sections = reader.get_sections();
+    let sections = sections_at(reader, brand, index);
     numbers::u8_at::<RequestSet>(&sections, brand, index, offset)
 }
 
@@ -145,7 +163,7 @@ pub(crate) fn u16_at(
     requires active { IsRequestFieldActive brand index reader }
     ensures { value.Number (pos result) ≡ request_read_at brand index (record_seen reader.entry) }
 {
-    let sections = reader.get_sections();
+    let sections = sections_at(reader, brand, index);
     numbers::u16_at::<RequestSet>(&sections, brand, index, offset, default)
 }
 
@@ -157,7 +175,7 @@ pub(crate) fn u32_at(reader: dynamic_struct::Reader<'_>, brand: u32, index: u16,
     requires active { IsRequestFieldActive brand index reader }
     ensures { value.Number (pos result) ≡ request_read_at brand index (record_seen reader.entry) }
 {
-    let sections = reader.get_sections();
+    let sections = sections_at(reader, brand, index);
     numbers::u32_at::<RequestSet>(&sections, brand, index, offset)
 }
 
@@ -169,7 +187,7 @@ pub(crate) fn u64_at(reader: dynamic_struct::Reader<'_>, brand: u32, index: u16,
     requires active { IsRequestFieldActive brand index reader }
     ensures { value.Number (pos result) ≡ request_read_at brand index (record_seen reader.entry) }
 {
-    let sections = reader.get_sections();
+    let sections = sections_at(reader, brand, index);
     numbers::u64_at::<RequestSet>(&sections, brand, index, offset)
 }
 
@@ -181,7 +199,7 @@ pub(crate) fn i8_at(reader: dynamic_struct::Reader<'_>, brand: u32, index: u16, 
     requires active { IsRequestFieldActive brand index reader }
     ensures { value.Number result ≡ request_read_at brand index (record_seen reader.entry) }
 {
-    let sections = reader.get_sections();
+    let sections = sections_at(reader, brand, index);
     numbers::i8_at::<RequestSet>(&sections, brand, index, offset)
 }
 
@@ -193,7 +211,7 @@ pub(crate) fn i16_at(reader: dynamic_struct::Reader<'_>, brand: u32, index: u16,
     requires active { IsRequestFieldActive brand index reader }
     ensures { value.Number result ≡ request_read_at brand index (record_seen reader.entry) }
 {
-    let sections = reader.get_sections();
+    let sections = sections_at(reader, brand, index);
     numbers::i16_at::<RequestSet>(&sections, brand, index, offset)
 }
 
@@ -205,7 +223,7 @@ pub(crate) fn i32_at(reader: dynamic_struct::Reader<'_>, brand: u32, index: u16,
     requires active { IsRequestFieldActive brand index reader }
     ensures { value.Number result ≡ request_read_at brand index (record_seen reader.entry) }
 {
-    let sections = reader.get_sections();
+    let sections = sections_at(reader, brand, index);
     numbers::i32_at::<RequestSet>(&sections, brand, index, offset)
 }
 
@@ -217,7 +235,7 @@ pub(crate) fn i64_at(reader: dynamic_struct::Reader<'_>, brand: u32, index: u16,
     requires active { IsRequestFieldActive brand index reader }
     ensures { value.Number result ≡ request_read_at brand index (record_seen reader.entry) }
 {
-    let sections = reader.get_sections();
+    let sections = sections_at(reader, brand, index);
     numbers::i64_at::<RequestSet>(&sections, brand, index, offset)
 }
 
@@ -234,7 +252,7 @@ pub(crate) fn bool_at(
     requires active { IsRequestFieldActive brand index reader }
     ensures { value.Truth result ≡ request_read_at brand index (record_seen reader.entry) }
 {
-    let sections = reader.get_sections();
+    let sections = sections_at(reader, brand, index);
     numbers::bool_at::<RequestSet>(&sections, brand, index, offset)
 }
 
@@ -253,7 +271,7 @@ pub(crate) fn text_at<'a>(
     ensures refused { IfErr result (λ e. value.Fault e.kind ≡ request_read_at brand index (record_seen reader.entry)) }
     ensures kinds { IfErr result (λ e. IsUnstrict e.kind) }
 {
-    let sections = reader.get_sections();
+    let sections = sections_at(reader, brand, index);
     pointers::text_at::<RequestSet>(&sections, brand, index, place)
 }
 
@@ -272,7 +290,7 @@ pub(crate) fn data_at<'a>(
     ensures refused { IfErr result (λ e. value.Fault e.kind ≡ request_read_at brand index (record_seen reader.entry)) }
     ensures kinds { IfErr result (λ e. IsUnstrict e.kind) }
 {
-    let sections = reader.get_sections();
+    let sections = sections_at(reader, brand, index);
     pointers::data_at::<RequestSet>(&sections, brand, index, place)
 }
 
@@ -323,7 +341,7 @@ pub(crate) fn struct_at<'a>(
     ensures kinds { IfErr result (λ e. IsUnstrict e.kind) }
 {
     let schema = reader.get_schema().get_set().struct_schema(inner);
-    let sections = reader.get_sections();
+    let sections = sections_at(reader, brand, index);
     match pointers::struct_at::<RequestSet>(&sections, brand, index, place, inner) {
         Ok(found) => Ok(dynamic_struct::Reader::new(found, schema)),
         Err(error) => Err(error),
@@ -371,7 +389,7 @@ pub(crate) fn list_at<'a>(
 {
     let schemas = reader.get_schema().get_set();
     let element = entry_type(inner);
-    let sections = reader.get_sections();
+    let sections = sections_at(reader, brand, index);
     match pointers::structs_at::<RequestSet>(&sections, brand, index, place, inner) {
         Ok(list) => Ok(dynamic_list::Reader::new(list, element, schemas)),
         Err(error) => Err(error),

@@ -1,20 +1,17 @@
 -- What is read is what the record holds at the field; both outcomes follow from it.
 use Rattle.capnp_dynamic_readers.specs.Seen.{record_seen}
 use Rattle.capnp_request.specs.Parts.{request_read_at}
-use Rattle.capnp_request.proofs.PartsRead.{active_in, there}
+use Rattle.capnp_request.proofs.PartsRead.{there}
 use Rattle.capnp_request.proofs.PointersSeen.{data_refused, data_taken, refused_kinds}
 use Rattle.capnp_request.proofs.parts.data_at.Goals as goal
 
-pub data_at-requires-clause-active : goal.data_at-requires-clause-active
-data_at-requires-clause-active c = active_in c.args.reader c.get_sections-sections.result c.args.brand c.requires.record c.get_sections-sections.ensures c.args.index c.requires.active
-
 pub returns-clause-read : goal.returns-clause-read
-returns-clause-read c = data_taken c.data_at.result (request_read_at c.args.brand c.args.index (record_seen c.args.reader)) (there c.args.reader c.get_sections-sections.result c.args.brand c.requires.record c.get_sections-sections.ensures c.args.index c.data_at.ensures)
+returns-clause-read c = data_taken c.data_at.result (request_read_at c.args.brand c.args.index (record_seen c.args.reader)) (there c.args.brand c.args.index c.sections_at-sections.ensures.record c.data_at.ensures)
 
 pub returns-clause-refused : goal.returns-clause-refused
-returns-clause-refused c = data_refused c.data_at.result (request_read_at c.args.brand c.args.index (record_seen c.args.reader)) (there c.args.reader c.get_sections-sections.result c.args.brand c.requires.record c.get_sections-sections.ensures c.args.index c.data_at.ensures)
+returns-clause-refused c = data_refused c.data_at.result (request_read_at c.args.brand c.args.index (record_seen c.args.reader)) (there c.args.brand c.args.index c.sections_at-sections.ensures.record c.data_at.ensures)
 
 pub returns-clause-kinds : goal.returns-clause-kinds
 returns-clause-kinds c =
     refused_kinds c.data_at.result c.args.reader c.args.brand c.args.index
-    (data_refused c.data_at.result (request_read_at c.args.brand c.args.index (record_seen c.args.reader)) (there c.args.reader c.get_sections-sections.result c.args.brand c.requires.record c.get_sections-sections.ensures c.args.index c.data_at.ensures))
+    (data_refused c.data_at.result (request_read_at c.args.brand c.args.index (record_seen c.args.reader)) (there c.args.brand c.args.index c.sections_at-sections.ensures.record c.data_at.ensures))

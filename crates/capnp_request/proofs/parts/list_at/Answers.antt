@@ -7,20 +7,17 @@ use Rattle.capnp_dynamic_readers.specs.Handles.{element_of, list_set}
 use Rattle.capnp_dynamic_readers.specs.Seen.{record_seen}
 use Rattle.capnp_request.specs.Parts.{request_struct}
 use Rattle.capnp_request.proofs.HandlesSeen.{elements_in}
-use Rattle.capnp_request.proofs.PartsRead.{active_in, there}
+use Rattle.capnp_request.proofs.PartsRead.{there}
 use Rattle.capnp_request.proofs.PointersSeen.{fault_kinds}
 use Rattle.capnp_request.proofs.Sounds.{read_at_sound, seen_sound}
 use Rattle.capnp_request.proofs.parts.list_at.Goals as goal
-
-pub structs_at-requires-clause-active : goal.structs_at-requires-clause-active
-structs_at-requires-clause-active c = active_in c.args.reader c.get_sections-sections.result c.args.brand c.requires.record c.get_sections-sections.ensures c.args.index c.requires.active
 
 pub returns-in-Ok-clause-read : goal.returns-in-Ok-clause-read
 returns-in-Ok-clause-read c =
     let set : list_set c.new.result ≡ request_set = search rules in
     let element : element_of c.new.result ≡ request_struct c.args.inner = search rules in
     sym (elements_in c.new.result c.in-Ok.list (request_struct c.args.inner) set element (sym c.new.ensures.reader))
-    ∙ there c.args.reader c.get_sections-sections.result c.args.brand c.requires.record c.get_sections-sections.ensures c.args.index c.in-Ok.ensures
+    ∙ there c.args.brand c.args.index c.sections_at-sections.ensures.record c.in-Ok.ensures
 
 pub returns-in-Ok-clause-elements : goal.returns-in-Ok-clause-elements
 returns-in-Ok-clause-elements c =
@@ -34,7 +31,7 @@ returns-in-Ok-clause-elements c =
     }
 
 pub returns-in-Err-clause-refused : goal.returns-in-Err-clause-refused
-returns-in-Err-clause-refused c = there c.args.reader c.get_sections-sections.result c.args.brand c.requires.record c.get_sections-sections.ensures c.args.index c.in-Err.ensures
+returns-in-Err-clause-refused c = there c.args.brand c.args.index c.sections_at-sections.ensures.record c.in-Err.ensures
 
 pub returns-in-Err-clause-kinds : goal.returns-in-Err-clause-kinds
-returns-in-Err-clause-kinds c = fault_kinds c.in-Err.error.kind c.args.reader c.args.brand c.args.index (there c.args.reader c.get_sections-sections.result c.args.brand c.requires.record c.get_sections-sections.ensures c.args.index c.in-Err.ensures)
+returns-in-Err-clause-kinds c = fault_kinds c.in-Err.error.kind c.args.reader c.args.brand c.args.index (there c.args.brand c.args.index c.sections_at-sections.ensures.record c.in-Err.ensures)

@@ -1,20 +1,17 @@
 -- What is read is what the record holds at the field; both outcomes follow from it.
 use Rattle.capnp_dynamic_readers.specs.Seen.{record_seen}
 use Rattle.capnp_request.specs.Parts.{request_read_at}
-use Rattle.capnp_request.proofs.PartsRead.{active_in, there}
+use Rattle.capnp_request.proofs.PartsRead.{there}
 use Rattle.capnp_request.proofs.PointersSeen.{text_refused, text_taken, refused_kinds}
 use Rattle.capnp_request.proofs.parts.text_at.Goals as goal
 
-pub text_at-requires-clause-active : goal.text_at-requires-clause-active
-text_at-requires-clause-active c = active_in c.args.reader c.get_sections-sections.result c.args.brand c.requires.record c.get_sections-sections.ensures c.args.index c.requires.active
-
 pub returns-clause-read : goal.returns-clause-read
-returns-clause-read c = text_taken c.text_at.result (request_read_at c.args.brand c.args.index (record_seen c.args.reader)) (there c.args.reader c.get_sections-sections.result c.args.brand c.requires.record c.get_sections-sections.ensures c.args.index c.text_at.ensures)
+returns-clause-read c = text_taken c.text_at.result (request_read_at c.args.brand c.args.index (record_seen c.args.reader)) (there c.args.brand c.args.index c.sections_at-sections.ensures.record c.text_at.ensures)
 
 pub returns-clause-refused : goal.returns-clause-refused
-returns-clause-refused c = text_refused c.text_at.result (request_read_at c.args.brand c.args.index (record_seen c.args.reader)) (there c.args.reader c.get_sections-sections.result c.args.brand c.requires.record c.get_sections-sections.ensures c.args.index c.text_at.ensures)
+returns-clause-refused c = text_refused c.text_at.result (request_read_at c.args.brand c.args.index (record_seen c.args.reader)) (there c.args.brand c.args.index c.sections_at-sections.ensures.record c.text_at.ensures)
 
 pub returns-clause-kinds : goal.returns-clause-kinds
 returns-clause-kinds c =
     refused_kinds c.text_at.result c.args.reader c.args.brand c.args.index
-    (text_refused c.text_at.result (request_read_at c.args.brand c.args.index (record_seen c.args.reader)) (there c.args.reader c.get_sections-sections.result c.args.brand c.requires.record c.get_sections-sections.ensures c.args.index c.text_at.ensures))
+    (text_refused c.text_at.result (request_read_at c.args.brand c.args.index (record_seen c.args.reader)) (there c.args.brand c.args.index c.sections_at-sections.ensures.record c.text_at.ensures))

@@ -1,8 +1,5 @@
-use Rattle.capnp_request.proofs.PartsRead.{active_in, there}
+use Rattle.capnp_request.proofs.PartsRead.{there}
 use Rattle.capnp_request.proofs.parts.u64_at.Goals as goal
 
-pub u64_at-requires-clause-active : goal.u64_at-requires-clause-active
-u64_at-requires-clause-active c = active_in c.args.reader c.get_sections-sections.result c.args.brand c.requires.record c.get_sections-sections.ensures c.args.index c.requires.active
-
 pub returns : goal.returns
-returns c = there c.args.reader c.get_sections-sections.result c.args.brand c.requires.record c.get_sections-sections.ensures c.args.index c.u64_at.ensures
+returns c = there c.args.brand c.args.index c.sections_at-sections.ensures.record c.u64_at.ensures
