@@ -1,5 +1,5 @@
 -- The walk over the pairs that are compared.
-use Rattle.std.proofs.Common.{ℕ, ◌+◌, ◌<◌, ◌≤◌, ◌≡◌, ◌⊎◌, inl, inr, ⊎_elim, refl, List, [], ◌∷◌, Bool, true, false, IsTrue, Contains, Option, Some, None, length, slice_get, arith, ap, ap₂, sym, ◌∙◌, subst, below_more}
+use Rattle.std.proofs.Common.{ℕ, ◌+◌, ◌<◌, ◌≤◌, ◌≡◌, ◌⊎◌, inl, inr, ⊎_elim, refl, List, [], Bool, IsTrue, Contains, Option, Some, None, length, slice_get, arith, ap, ap₂, sym, ◌∙◌, subst, below_more}
 use Rattle.std.proofs.lemmas.Bool.{cases_lt}
 use Rattle.capnp_schema.specs.Schema.{Schemas, fields_of, field_at}
 use Rattle.capnp_schema.specs.Accepted.{IsAccepted}

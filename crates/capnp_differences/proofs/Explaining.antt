@@ -1,18 +1,18 @@
 -- What is answered of the pairs that were compared.
-use Rattle.std.proofs.Common.{ℕ, suc, zero, ◌<◌, ◌≡◌, ◌↔◌, refl, List, [], ◌∷◌, Bool, true, false, not, ◌&&◌, IsTrue, All, AllPairs, Contains, Option, Some, None, length, map, slice_get, arith, ap, sym, ◌∙◌, subst}
+use Rattle.std.proofs.Common.{ℕ, suc, zero, ◌≡◌, ◌↔◌, refl, List, [], ◌∷◌, Bool, true, false, not, ◌&&◌, IsTrue, Contains, Option, Some, None, length, map, slice_get, arith, ap, sym, ◌∙◌, subst}
 use Rattle.std.specs.Option.{option_map}
 use Rattle.std.proofs.lemmas.List.{length-map}
 use Rattle.std.proofs.lemmas.Option.{slice_get-map}
-use Rattle.capnp_schema.specs.Schema.{Schemas, field_at, fields_of}
+use Rattle.capnp_schema.specs.Schema.{Schemas, field_at}
 use Rattle.capnp_records.specs.Compatible.{IsSuccessor, Pairs}
 use Rattle.capnp_differences.specs.declared.differences.Cause.{Cause}
 use Rattle.capnp_differences.specs.declared.differences.Difference.{Difference}
 use Rattle.capnp_differences.specs.declared.differences.Pair.{Pair}
 use Rattle.capnp_differences.specs.Closing.{listed_pairs}
-use Rattle.capnp_differences.specs.Differences.{AreAnswered, ComesFirst, DiffersAt, Given, Holds, IsCompared, IsComparedOf, IsDifference, IsDifferenceOf, Named, struct_pair}
+use Rattle.capnp_differences.specs.Differences.{AreAnswered, DiffersAt, Given, IsCompared, IsComparedOf, IsDifference, IsDifferenceOf, Named, struct_pair}
 use Rattle.capnp_differences.specs.Steps.Comparing.{Compares, Has, HasNamed, pair_of}
 use Rattle.capnp_differences.specs.Steps.Gathering.{Gathers, IsAt}
-use Rattle.capnp_differences.specs.Steps.Marking.{AreFound, NamesOne, Reaches}
+use Rattle.capnp_differences.specs.Steps.Marking.{AreFound, Reaches}
 use Rattle.capnp_differences.specs.Steps.Telling.{difference_of}
 use Rattle.capnp_differences.proofs.Listings.{contains_at, contains_listed, index_inside, listed_at}
 use Rattle.capnp_differences.proofs.Relating.{shared_from, shared_named, shared_same}

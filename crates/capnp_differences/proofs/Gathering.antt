@@ -1,5 +1,5 @@
 -- Pairs that are put into a list one after another.
-use Rattle.std.proofs.Common.{ℕ, ◌+◌, ◌<◌, ◌≡◌, ◌⊎◌, inl, inr, ⊎_elim, refl, List, [], IsTrue, All, Some, length, slice_get, arith, ap, sym, ◌∙◌, subst, below_more}
+use Rattle.std.proofs.Common.{ℕ, ◌+◌, ◌≡◌, ◌⊎◌, inl, inr, List, [], IsTrue, All, Some, slice_get, arith, ap, sym, ◌∙◌, subst, below_more}
 use Rattle.std.proofs.lemmas.List.Elements.{All-contains}
 use Rattle.capnp_schema.specs.Schema.{Schemas}
 use Rattle.capnp_differences.specs.Closing.{listed_pairs}

@@ -1,10 +1,9 @@
 -- How changes are added one after another, and from one step further out.
-use Rattle.std.proofs.Common.{ℕ, ◌≡◌, refl, List, [], ◌∷◌, ◌++◌, Bool, true, false, map, ap, ap₂, sym, ◌∙◌, subst}
+use Rattle.std.proofs.Common.{◌≡◌, refl, List, [], ◌∷◌, ◌++◌, true, false, map, ap, ap₂, sym, ◌∙◌, subst}
 use Rattle.capnp_schema.specs.Schema.{Schemas}
-use Rattle.capnp_schema.specs.Types.{SchemaType}
 use Rattle.capnp_records.specs.Call.{PathStep}
 use Rattle.capnp_records.specs.Record.{Value}
-use Rattle.capnp_diffs.specs.Changes.{CanStand, Change, IsTold, all_behind, behind, same_leaf, unless_same, whole_change, goal_of}
+use Rattle.capnp_diffs.specs.Changes.{Change, all_behind, same_leaf, unless_same}
 use Rattle.capnp_diffs.specs.Found.{AreReady, IsReady, change_seen, changes_seen, goal_seen}
 use Rattle.capnp_diffs.specs.Steps.Adding.{Adds, all_within, one_change, within}
 use Rattle.capnp_call.specs.Seen.{path_seen, step_seen}

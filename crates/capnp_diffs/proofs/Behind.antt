@@ -1,10 +1,10 @@
 -- What the reads of a pointer answer is the value of its tree, whatever levels are left.
-use Rattle.std.proofs.Common.{ℕ, ◌-◌, ◌+◌, ◌≡◌, refl, [], List, Bool, true, false, cond, ◌==◌, Result, Ok, Err, arith, ap, sym, subst, ◌∙◌}
+use Rattle.std.proofs.Common.{ℕ, ◌≡◌, refl, List, Bool, true, false, cond, ◌==◌, Result, Ok, Err, ap, sym, ◌∙◌}
 use Rattle.std.proofs.lemmas.Bool.{true≢false}
 use Rattle.capnp_wire.specs.Tree as tree
 use Rattle.capnp_device.specs.declared.error.ErrorKind.{ErrorKind}
 use Rattle.capnp_device.specs.declared.error.ErrorKind.TheVariants.{TooDeep, WrongPointerKind, WrongElementSize}
-use Rattle.capnp_wire.specs.Reading.{as_data, as_list, as_struct, as_text, is_null_tree, list_if, reads_bits, reads_numbers, reads_pointers, reads_structs, reads_voids, with_level}
+use Rattle.capnp_wire.specs.Reading.{as_data, as_list, as_struct, as_text, is_null_tree, reads_bits, reads_numbers, reads_pointers, reads_structs, reads_voids, with_level}
 use Rattle.capnp_wire.specs.Tree.{StructTree, Tree}
 use Rattle.capnp_wire.specs.declared.size.ElementSize.{ElementSize}
 use Rattle.capnp_schema.specs.Schema.{Schemas}
@@ -13,7 +13,7 @@ use Rattle.capnp_records.specs.Facts.ListValues.{below_of}
 use Rattle.capnp_records.specs.Facts.Readers as readers
 use Rattle.capnp_records.specs.Reading.{elements_value, of_read, reads, value_of}
 use Rattle.capnp_records.specs.Record as value
-use Rattle.capnp_records.specs.Record.{Endless, Value}
+use Rattle.capnp_records.specs.Record.{Endless}
 
 pub null_is : (x : Tree) → is_null_tree x ≡ true → x ≡ tree.Null
 null_is tree.Null h = refl

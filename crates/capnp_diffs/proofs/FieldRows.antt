@@ -1,6 +1,6 @@
 -- The non-union fields of a struct on both sides, from an index on.
 use Rattle.std.specs.Prelude.{⊤}
-use Rattle.std.proofs.Common.{ℕ, zero, suc, ◌+◌, ◌<◌, ◌≤◌, ◌≡◌, ◌∙◌, refl, [], ◌∷◌, ◌++◌, List, drop, length, slice_get, Bool, true, false, arith, ap, ap₂, sym, subst}
+use Rattle.std.proofs.Common.{ℕ, zero, suc, ◌+◌, ◌<◌, ◌≤◌, ◌≡◌, ◌∙◌, refl, [], ◌∷◌, List, drop, length, slice_get, Bool, true, false, arith, ap, ap₂, sym, subst}
 use Rattle.std.proofs.lemmas.Bool.{true≢false}
 use Rattle.std.proofs.lemmas.List.{drop_all}
 use Rattle.std.specs.Option.{unwrap_or}
@@ -14,7 +14,7 @@ use Rattle.capnp_records.specs.Call.{FieldNumber}
 use Rattle.capnp_records.specs.Facts.Frame.{chosen_first, second_of}
 use Rattle.capnp_records.specs.Reading.{non_union_parts}
 use Rattle.capnp_records.specs.Record as value
-use Rattle.capnp_records.specs.Record.{MoreValues, NoValues, Parts, Record, Union, Value, Values}
+use Rattle.capnp_records.specs.Record.{MoreValues, NoValues, Parts, Record, Value, Values}
 use Rattle.capnp_call.specs.declared.calls.Step.{Step}
 use Rattle.capnp_diffs.specs.Changes.{AreElsewhere, AreFieldsTold, ByKind, Change, Either, IsGroupTold, IsTold, field_changes, union_changes, value_changes}
 use Rattle.capnp_diffs.specs.Steps.Adding.{Adds, AreFieldsFound, IsPartFound, IsRecordFound, IsUnionFound, fields_held, whole_part, whole_record}

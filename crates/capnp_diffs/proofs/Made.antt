@@ -1,5 +1,5 @@
 -- The calls of changes that are ready make them.
-use Rattle.std.proofs.Common.{◌≡◌, refl, List, [], ◌∷◌, map, subst}
+use Rattle.std.proofs.Common.{refl, List, [], ◌∷◌, map, subst}
 use Rattle.capnp_schema.specs.Schema.{Schemas}
 use Rattle.capnp_call.specs.Seen.{op_seen}
 use Rattle.capnp_call.specs.declared.calls.Op.{Op}

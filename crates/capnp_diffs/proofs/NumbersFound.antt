@@ -11,7 +11,7 @@ use Rattle.capnp_schema.specs.Types.{BoolType, EnumType, IntType, SchemaType, UI
 use Rattle.capnp_records.specs.Default.{read_of}
 use Rattle.capnp_records.specs.Facts.ListValues.{below_of}
 use Rattle.capnp_records.specs.Reading.{element_value}
-use Rattle.capnp_records.specs.Record.{Left, Value, Values, values_from}
+use Rattle.capnp_records.specs.Record.{Left, values_from}
 use Rattle.capnp_dynamic_readers.specs.Handles.{list_reader_of, list_set, type_of}
 use Rattle.capnp_dynamic_readers.specs.Reads as reads
 use Rattle.capnp_dynamic_readers.specs.Seen.{value_seen}

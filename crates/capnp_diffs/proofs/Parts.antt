@@ -1,18 +1,15 @@
 -- A field that stands on both sides, and a member that becomes active: behind a pointer, a group, or a number.
-use Rattle.std.specs.Prelude.{option_to_list}
-use Rattle.std.proofs.Common.{ℕ, zero, suc, ◌<◌, ◌≤◌, ◌-◌, ◌+◌, ◌≡◌, ◌∙◌, refl, [], ◌∷◌, ◌++◌, List, length, Bool, true, false, Option, Some, None, arith, ap, ap₂, sym, subst}
-use Rattle.std.proofs.lemmas.Bool.{true≢false}
-use Rattle.capnp_wire.specs.Standing.{struct_of, tree_of}
+use Rattle.std.proofs.Common.{ℕ, zero, suc, ◌<◌, ◌≤◌, ◌+◌, ◌≡◌, ◌∙◌, refl, [], ◌∷◌, ◌++◌, List, length, Bool, true, false, Some, None, arith, ap, sym, subst}
+use Rattle.capnp_wire.specs.Standing.{struct_of}
 use Rattle.capnp_wire.specs.Tree.{Tree, empty_struct, nth_tree}
-use Rattle.capnp_wire.specs.declared.pointer_reader.PointerReader.{PointerReader}
 use Rattle.capnp_wire.specs.declared.struct_reader.StructReader.{StructReader}
-use Rattle.capnp_schema.specs.Accepted.{IsAccepted, IsGroupOf, NamesEntries}
+use Rattle.capnp_schema.specs.Accepted.{IsAccepted, IsGroupOf}
 use Rattle.capnp_schema.specs.Facts.Groups.{group_fields_name_brands}
 use Rattle.capnp_schema.specs.FieldLists.{IsFieldOf, field_schema, index_of, typed_of}
 use Rattle.capnp_schema.specs.GroupsDown.{IfGroup, LeadsToGroup}
 use Rattle.capnp_schema.specs.Laws.{group_height}
-use Rattle.capnp_schema.specs.Plan.{data_place, plan_in, plan_of, plan_place, slot_place}
-use Rattle.capnp_schema.specs.Schema.{FieldKind, Group, Schemas, Slot, TypedField, field_at, fields_of, node_of, Value as SchemaValue}
+use Rattle.capnp_schema.specs.Plan.{data_place, plan_of, plan_place, slot_place}
+use Rattle.capnp_schema.specs.Schema.{FieldKind, Group, Schemas, Slot, TypedField, field_at, fields_of, Value as SchemaValue}
 use Rattle.capnp_schema.specs.StructHandles.{IsStruct, number_of, set_of}
 use Rattle.capnp_schema.specs.Types.{SchemaType, StructType, AnyPointerType, BoolType, DataType, EnumType, IntType, ListType, TextType, UIntType, VoidType, is_pointer, struct_brand, struct_number, width}
 use Rattle.capnp_schema.specs.declared.plan.Place.{Place}
@@ -26,7 +23,7 @@ use Rattle.capnp_records.specs.Facts.Frame.{chosen_first}
 use Rattle.capnp_records.specs.Facts.Groups.{part_of_group}
 use Rattle.capnp_records.specs.Facts.PartRead.{slot_part}
 use Rattle.capnp_records.specs.Facts.Pointers.{values_of_nth}
-use Rattle.capnp_records.specs.Reading.{Reading, nth_reading, number_value, part_of, reads, value_of, values_of}
+use Rattle.capnp_records.specs.Reading.{Reading, nth_reading, number_value, reads, value_of, values_of}
 use Rattle.capnp_records.specs.Record as value
 use Rattle.capnp_records.specs.Record.{Endless, Record, Value}
 use Rattle.capnp_schema.specs.SlotValue.{slot_number}
@@ -37,7 +34,7 @@ use Rattle.capnp_call.specs.Seen.{step_seen}
 use Rattle.capnp_call.specs.declared.calls.Op.TheVariants as op
 use Rattle.capnp_call.specs.declared.calls.Step.{Step}
 use Rattle.capnp_call.specs.declared.calls.Step.TheVariants as step
-use Rattle.capnp_diffs.specs.Changes.{ByKind, CanStand, Change, Inits, IsGroupTold, IsRecordTold, IsSwitchTold, IsTold, all_behind, record_changes, switch_changes, value_changes, whole_change}
+use Rattle.capnp_diffs.specs.Changes.{ByKind, CanStand, Change, Inits, IsGroupTold, IsSwitchTold, IsTold, all_behind, record_changes, switch_changes, value_changes, whole_change}
 use Rattle.capnp_diffs.specs.Found.{IsReady, goal_seen}
 use Rattle.capnp_diffs.specs.Steps.Adding.{Adds, IsFoundAt, IsPartFound, IsRecordFound, IsSwitchFound, one_change, whole_part, whole_record}
 use Rattle.capnp_diffs.specs.declared.change.Change.{Change as FoundChange}

@@ -1,5 +1,5 @@
 -- The changes from one root to another.
-use Rattle.std.proofs.Common.{ℕ, ◌≡◌, [], List, subst}
+use Rattle.std.proofs.Common.{◌≡◌, [], List, subst}
 use Rattle.capnp_wire.specs.Standing.{struct_of}
 use Rattle.capnp_wire.specs.declared.struct_reader.StructReader.{StructReader}
 use Rattle.capnp_schema.specs.StructHandles.{number_of, set_of}

@@ -1,6 +1,6 @@
 -- Slots of the data section: what is read there, compared and put.
 use Rattle.std.specs.Prelude.{⊤}
-use Rattle.std.proofs.Common.{ℕ, ◌<◌, ◌+◌, ◌≡◌, ◌∙◌, refl, [], ◌∷◌, List, length, Bool, true, false, not, ◌==◌, Option, Some, None, Result, Ok, Err, IfOk, ap, ap₂, sym, subst}
+use Rattle.std.proofs.Common.{ℕ, ◌<◌, ◌+◌, ◌≡◌, ◌∙◌, refl, [], ◌∷◌, List, length, Bool, true, false, not, ◌==◌, Some, None, Result, Ok, Err, IfOk, ap, ap₂, sym, subst}
 use Rattle.std.proofs.lemmas.Bool.{eq-eqb, true≢false}
 use Rattle.capnp_device.specs.declared.error.Error.{Error}
 use Rattle.capnp_wire.specs.Standing.{struct_levels, struct_of}
@@ -18,7 +18,6 @@ use Rattle.capnp_records.specs.Call.{FieldNumber}
 use Rattle.capnp_records.specs.Default.{read_of}
 use Rattle.capnp_records.specs.Facts.Frame.{second_of}
 use Rattle.capnp_records.specs.Reading.{Reading, kind_value, nth_reading, number_value, record_within, values_of}
-use Rattle.capnp_records.specs.Record as value
 use Rattle.capnp_records.specs.Record.{Endless, Left, Levels, Record, Value}
 use Rattle.capnp_dynamic_readers.specs.Handles.{reader_of, schema_of}
 use Rattle.capnp_dynamic_readers.specs.Reads.{BelongsTo, field_read, field_seen, handed_out}

@@ -9,7 +9,7 @@ use Rattle.capnp_base.specs.declared.introspect.TypeVariant.TheVariants as varia
 use Rattle.capnp_schema.specs.Accepted.{NamesEntries}
 use Rattle.capnp_schema.specs.Facts.Layers.{seen_which}
 use Rattle.capnp_schema.specs.Schema.{Schemas, brand_at}
-use Rattle.capnp_schema.specs.StructHandles.{IsStruct, generic_of, number_of, set_of}
+use Rattle.capnp_schema.specs.StructHandles.{IsStruct, number_of, set_of}
 use Rattle.capnp_schema.specs.Types.{AnyPointerType, SchemaType, StructType, is_pointer, seen_type, seen_variant, struct_brand}
 use Rattle.capnp_schema.specs.declared.schema.structs.StructSchema.{StructSchema}
 use Rattle.capnp_dynamic_readers.specs.Typed.{struct_type}

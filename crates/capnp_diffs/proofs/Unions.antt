@@ -1,6 +1,6 @@
 -- The union of a struct on both sides: the member that is active in the new one, or a number that names none.
 use Rattle.std.specs.Prelude.{◌*◌}
-use Rattle.std.proofs.Common.{ℕ, zero, suc, ◌<◌, ◌+◌, ◌≡◌, ◌∙◌, refl, [], ◌∷◌, List, length, slice_get, Bool, true, false, not, ◌&&◌, ◌==◌, Option, Some, None, OnOk, arith, ap, ap₂, sym, subst}
+use Rattle.std.proofs.Common.{ℕ, zero, suc, ◌<◌, ◌+◌, ◌≡◌, ◌∙◌, refl, [], ◌∷◌, List, length, slice_get, Bool, true, false, not, ◌&&◌, ◌==◌, Option, Some, None, arith, ap, ap₂, sym, subst}
 use Rattle.std.proofs.lemmas.Bool.{eq-eqb, eqb-true, true≢false}
 use Rattle.std.specs.Option.{unwrap_or}
 use Rattle.capnp_wire.specs.Standing.{struct_levels, struct_of}
@@ -17,7 +17,6 @@ use Rattle.capnp_records.specs.Call.{FieldNumber}
 use Rattle.capnp_records.specs.Facts.Frame.{chosen_first, second_of}
 use Rattle.capnp_records.specs.Part.{active_value, is_active, is_inactive, which_of}
 use Rattle.capnp_records.specs.Reading.{active_among, discriminant, non_union_parts, part_of, reads, struct_record, union_of, values_of}
-use Rattle.capnp_records.specs.Record as value
 use Rattle.capnp_records.specs.Record.{Active, Endless, Left, NoUnion, Parts, Record, Union, Unknown, Value, Values}
 use Rattle.capnp_dynamic_readers.specs.Facts.HasWhich.{active_by_plan}
 use Rattle.capnp_dynamic_readers.specs.Handles.{reader_of, schema_of}

@@ -14,7 +14,7 @@ use Rattle.capnp_records.specs.Operation.{CopiesWhole, Does, DoesAt, Inits, IsDo
 use Rattle.capnp_records.specs.Part.{active_value, is_active, is_inactive, nth_value, part_at, value_count, with_part, with_value}
 use Rattle.capnp_records.specs.Reading.{slot_value}
 use Rattle.capnp_records.specs.Record as value
-use Rattle.capnp_records.specs.Record.{Active, Endless, Left, MoreValues, NoUnion, NoValues, Parts, Record, Union, Unknown, Value, Values, is_there}
+use Rattle.capnp_records.specs.Record.{Active, Endless, MoreValues, NoUnion, NoValues, Parts, Record, Union, Unknown, Value, Values, is_there}
 use Rattle.capnp_records.specs.Run.{Ends}
 use Rattle.capnp_records.specs.Step.{CanRefuse, Enters, Passes, StepTarget, Walks, element_target, fault_of, field_target, filled_value, for_memory, for_size, is_group_field, step_target, walked_by_type, walked_result, walked_target}
 use Rattle.capnp_diffs.specs.Changes.{Change, Clears, Inits as InitsGoal, Puts, behind}

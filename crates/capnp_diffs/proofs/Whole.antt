@@ -4,15 +4,14 @@ use Rattle.std.proofs.Common.{ℕ, ◌≡◌, refl, List, [], ◌∷◌, Bool, t
 use Rattle.std.specs.Borrow.{Bor}
 use Rattle.capnp_wire.specs.Reading.{is_null_tree, refusal}
 use Rattle.capnp_wire.specs.Standing.{list_of, struct_of}
-use Rattle.capnp_wire.specs.Tree.{StructTree, Tree, Trees}
+use Rattle.capnp_wire.specs.Tree.{Tree}
 use Rattle.capnp_wire.specs.Words.{first_fault, first_fault_of_all}
-use Rattle.capnp_wire.specs.declared.fault.Fault.{Fault}
 use Rattle.capnp_wire.specs.declared.list_reader.ListReader.{ListReader}
 use Rattle.capnp_wire.specs.declared.struct_reader.StructReader.{StructReader}
 use Rattle.capnp_base.specs.declared.introspect.«Type».{«Type» as TypeHandle}
 use Rattle.capnp_schema.specs.Schema.{Schemas}
 use Rattle.capnp_schema.specs.StructHandles.{number_of, set_of}
-use Rattle.capnp_schema.specs.Types.{AnyPointerType, DataType, ListType, SchemaType, TextType, seen_type}
+use Rattle.capnp_schema.specs.Types.{AnyPointerType, DataType, ListType, TextType, seen_type}
 use Rattle.capnp_schema.specs.declared.schema.structs.StructSchema.{StructSchema}
 use Rattle.capnp_records.specs.Facts.Extension.{reads_rounded}
 use Rattle.capnp_records.specs.Facts.Readers as readers
@@ -24,7 +23,7 @@ use Rattle.capnp_dynamic_readers.specs.Typed.{struct_type}
 use Rattle.capnp_dynamic_readers.specs.declared.dynamic_list.Reader.{Reader as ListHandle}
 use Rattle.capnp_dynamic_readers.specs.declared.dynamic_struct.Reader.{Reader as StructHandle}
 use Rattle.capnp_dynamic_readers.specs.declared.dynamic_value.Reader.TheVariants as dynamic
-use Rattle.capnp_diffs.specs.Changes.{Clears, IsLeafTold, OnlyIf, same_leaf, same_tree, whole_change}
+use Rattle.capnp_diffs.specs.Changes.{Clears, IsLeafTold, OnlyIf, same_leaf, whole_change}
 use Rattle.capnp_diffs.specs.Found.{IsReady, goal_seen}
 use Rattle.capnp_diffs.specs.Steps.Adding.{Adds, IsFoundAt, one_change}
 use Rattle.capnp_diffs.specs.Steps.Leaves.{data_value, list_value, text_value}

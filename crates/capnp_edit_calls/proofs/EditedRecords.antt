@@ -8,7 +8,7 @@ use Rattle.capnp_records.specs.Call.{Call, Done, ListSource, Op, Set}
 use Rattle.capnp_records.specs.Laws.{OverlayLaw}
 use Rattle.capnp_records.specs.Reading.{reads, value_of}
 use Rattle.capnp_records.specs.Record as value
-use Rattle.capnp_records.specs.Record.{Endless, Left, Record, Value, Values}
+use Rattle.capnp_records.specs.Record.{Endless, Left, Record}
 use Rattle.capnp_records.specs.Run.{Ends, Run, root_type}
 use Rattle.capnp_records.specs.Step.{Walks}
 use Rattle.capnp_records.specs.Writes.TreeEnds.{TreeStep}

@@ -1,25 +1,24 @@
 -- What acts leave of a root, by what they do to its struct.
-use Rattle.std.proofs.Common.{ℕ, ◌≡◌, List, [], ◌∷◌, map, ap, subst, sym, ◌∙◌}
+use Rattle.std.proofs.Common.{◌≡◌, List, [], ◌∷◌, map, ap, subst, sym, ◌∙◌}
 use Rattle.capnp_wire.specs.Edits.{struct_in}
 use Rattle.capnp_wire.specs.Tree.{StructTree, Tree}
 use Rattle.capnp_schema.specs.Ranges.{HasRanges}
 use Rattle.capnp_schema.specs.StructHandles.{IsStruct, number_of, set_of}
 use Rattle.capnp_schema.specs.declared.schema.structs.StructSchema.{StructSchema}
-use Rattle.capnp_records.specs.Call.{Call as CallSeen, Reply as ReplySeen}
 use Rattle.capnp_records.specs.Laws.{OverlayLaw}
 use Rattle.capnp_records.specs.Record.{Record}
 use Rattle.capnp_records.specs.Run.{Run}
 use Rattle.capnp_slots.specs.Standing.{IsUnder}
 use Rattle.capnp_call.specs.Messages.{IsRoot, LeavesRun}
 use Rattle.capnp_call.specs.Runs.{MakesCalls, record_under_schema}
-use Rattle.capnp_call.specs.Seen.{call_seen, reply_seen}
+use Rattle.capnp_call.specs.Seen.{reply_seen}
 use Rattle.capnp_call.specs.declared.calls.Call.{Call}
 use Rattle.capnp_call.specs.declared.calls.Reply.{Reply}
 use Rattle.capnp_call.proofs.Making.{machine_runs}
 use Rattle.capnp_call.proofs.RunsRest.{run_rests}
 use Rattle.capnp_call.proofs.Starts.{stands_here}
 use Rattle.capnp_patch.specs.Patches.{IsLeft}
-use Rattle.capnp_edit_calls.specs.ActsLeft.{IsActsLeft, IsMachineRun}
+use Rattle.capnp_edit_calls.specs.ActsLeft.{IsActsLeft}
 use Rattle.capnp_edit_calls.specs.ActsMade.{ActsMade}
 use Rattle.capnp_edit_calls.specs.Laws.{ActsLaw}
 use Rattle.capnp_edit_calls.specs.declared.acts.Act.{Act}

@@ -17,7 +17,7 @@ use Rattle.capnp_records.specs.Given.{Copies, CopiesGroup, Fails, Given, Gives, 
 use Rattle.capnp_records.specs.Operation.{CopiesWhole, Sets}
 use Rattle.capnp_records.specs.Reading.{reads, value_of}
 use Rattle.capnp_records.specs.Record as value
-use Rattle.capnp_records.specs.Record.{Endless, Levels, MoreValues, NoValues, Value, Values}
+use Rattle.capnp_records.specs.Record.{Endless, Levels, MoreValues, NoValues, Value}
 use Rattle.capnp_records.specs.Step.{StepTarget}
 use Rattle.capnp_records.specs.Steps.ElementEnds.{element_content_value}
 use Rattle.capnp_records.specs.Writes.Contents.{new_list}

@@ -16,7 +16,7 @@ use Rattle.capnp_records.specs.Facts.Extension.{reads_extended}
 use Rattle.capnp_records.specs.Facts.ListValues.{ListRead, list_from, list_read, values_from_same}
 use Rattle.capnp_records.specs.Reading.{number_value, reads, value_of}
 use Rattle.capnp_records.specs.Record as value
-use Rattle.capnp_records.specs.Record.{Endless, MoreValues, NoValues, Value, Values, values_from}
+use Rattle.capnp_records.specs.Record.{Endless, MoreValues, Value, Values, values_from}
 use Rattle.capnp_records.specs.Steps.Stand.{seen_element}
 use Rattle.capnp_edits.specs.Laws.{SpliceLaw}
 use Rattle.capnp_edits.specs.Edits.{append_values, first_values, spliced, values_behind}

@@ -1,5 +1,5 @@
 -- Marks of what is given, from the last on.
-use Rattle.std.proofs.Common.{ℕ, ◌≡◌, refl, List, [], ◌∷◌, ◌++◌, Bool, true, false, ◌||◌, Option, ap, sym, ◌∙◌}
+use Rattle.std.proofs.Common.{ℕ, ◌≡◌, refl, List, [], ◌∷◌, ◌++◌, Bool, true, false, ◌||◌, Option, ◌∙◌}
 use Rattle.capnp_from_json.specs.Records.{is_given, is_same_mark}
 use Rattle.capnp_from_json.specs.Given.{latest_first, marks_of}
 

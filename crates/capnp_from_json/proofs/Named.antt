@@ -1,6 +1,6 @@
 -- The member of a name, by the field that was found.
-use Rattle.std.proofs.Common.{ℕ, ◌≡◌, refl, List, [], ◌∷◌, ◌++◌, Bool, true, false, Option, Some, None, ap, sym, subst, ◌∙◌}
-use Rattle.capnp_schema.specs.FieldLists.{IsFieldOf, IsFound, field_schema, index_of, typed_of}
+use Rattle.std.proofs.Common.{ℕ, ◌≡◌, List, [], ◌∷◌, ◌++◌, true, false, Option, Some, None, ap, sym, subst, ◌∙◌}
+use Rattle.capnp_schema.specs.FieldLists.{IsFieldOf, IsFound, index_of, typed_of}
 use Rattle.capnp_schema.specs.Query.{records_of}
 use Rattle.capnp_schema.specs.Schema.{Schemas, TypedField, field_at}
 use Rattle.capnp_schema.specs.StructHandles.{number_of, set_of, struct_records}

@@ -7,7 +7,7 @@ use Rattle.std.specs.Char.{encode_utf8}
 use Rattle.capnp_schema.specs.Schema.{Schemas, Node, Brand, Field, FieldKind, Slot, Group, VoidValue, UIntValue, StructValue, ListValue, no_types}
 use Rattle.capnp_schema.specs.Types.{SchemaType, VoidType, UIntType, StructType, ListType}
 use Rattle.capnp_records.specs.Record as value
-use Rattle.capnp_records.specs.Record.{Endless, Value, Values, NoValues, MoreValues, Union, Record, Parts, Active}
+use Rattle.capnp_records.specs.Record.{Endless, Value, Values, NoValues, MoreValues, Record, Parts, Active}
 use Rattle.capnp_floats.specs.declared.word.Refusal.TheVariants.{NoFloat}
 use Rattle.capnp_json_text.specs.Decimals.{decimal_of, exponent_of, fraction_digits, whole_digits}
 use Rattle.capnp_json_text.specs.Numbers.{after_number}

@@ -1,6 +1,5 @@
 -- What is read next is shorter than what it was read from.
-use Rattle.std.proofs.Common.{ℕ, suc, ◌≡◌, ◌<◌, ◌≤◌, ◌==◌, Bool, true, false, cond, List, [], ◌∷◌, length, Option, Some, None, Ok, Err, arith, ap, sym, subst}
-use Rattle.std.specs.Prelude.{⊤}
+use Rattle.std.proofs.Common.{ℕ, suc, ◌≡◌, ◌<◌, ◌≤◌, ◌==◌, Bool, true, false, cond, List, [], ◌∷◌, length, Some, None, Ok, Err, arith, ap}
 use Rattle.capnp_json_text.specs.Readings.{Rest, after_blanks}
 use Rattle.capnp_json_text.specs.Texts.{after_name, after_value}
 use Rattle.capnp_json_text.specs.Values.{closing, first_item, following_item, left, member_value, next_item}

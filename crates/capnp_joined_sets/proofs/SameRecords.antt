@@ -12,7 +12,7 @@ use Rattle.capnp_schema.specs.Schema.{Schemas, Node, FieldKind, Slot, Group, Typ
 use Rattle.capnp_schema.specs.Accepted.{IsAccepted, IsGroupOf, NamesEntries}
 use Rattle.capnp_schema.specs.Facts.Groups.{IsShallow, group_in_set, is_shallow}
 use Rattle.capnp_records.specs.Record as value
-use Rattle.capnp_records.specs.Record.{Levels, Value, Values, Union, Record, Parts, NoUnion, Active, Unknown, NoValues, MoreValues, is_there, levels_asked, one_less, values_from}
+use Rattle.capnp_records.specs.Record.{Levels, Value, Record, Parts, NoUnion, Active, MoreValues, is_there, levels_asked, one_less, values_from}
 use Rattle.capnp_records.specs.Reading.{Below, Body, Reading, active_among, bodies_of, bytes_below, discriminant, element_value, elements_value, entered_value, first_pointer, group_record, kind_value, non_union_parts, nth_body, nth_reading, null, of_read, only_reading, pointers_below, record_of, record_within, slot_value, struct_below, struct_record, structs_below, tree_value, union_of, value_of, values_of}
 use Rattle.capnp_records.specs.Facts.Groups.{record_within_more}
 use Rattle.capnp_joined_sets.specs.declared.moves.Moves.{Moves}

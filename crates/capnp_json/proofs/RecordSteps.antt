@@ -8,7 +8,7 @@ use Rattle.capnp_schema.specs.Steps.GroupWalks.{steps_into, steps_through}
 use Rattle.capnp_schema.specs.StructHandles.{number_of, set_of}
 use Rattle.capnp_schema.specs.declared.schema.structs.StructSchema.{StructSchema}
 use Rattle.capnp_records.specs.Reading.{non_union_parts}
-use Rattle.capnp_records.specs.Record.{Value, Values, is_there}
+use Rattle.capnp_records.specs.Record.{Value, is_there}
 use Rattle.capnp_records.specs.Record as value
 use Rattle.capnp_records.specs.Text.{Layout}
 use Rattle.capnp_dynamic_readers.specs.Steps.GroupTexts.{read_part_at, union_at}

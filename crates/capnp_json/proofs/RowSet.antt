@@ -3,7 +3,7 @@ use Rattle.std.specs.Prelude.{ℕ, ℤ, pos, negsuc, List, [], ◌∷◌, false,
 use Rattle.capnp_schema.specs.Schema.{Annotation, Brand, Enumerant, Field, Group, Node, Schemas, Slot, TextValue, VoidValue, no_types}
 use Rattle.capnp_schema.specs.Types.{AnyPointerType, DataType, EnumType, IntType, ListType, SchemaType, StructType, TextType, UIntType}
 use Rattle.capnp_records.specs.Record as value
-use Rattle.capnp_records.specs.Record.{Active, Endless, Left, MoreValues, NoUnion, NoValues, Parts, Record, Union, Unknown, Value, Values}
+use Rattle.capnp_records.specs.Record.{Left, MoreValues, NoUnion, NoValues, Parts, Record, Union, Value, Values}
 use Rattle.capnp_json_fields.specs.Marks.{base64_id, float_id, hex_id}
 use Rattle.capnp_json_fields.specs.Names.{name_id}
 

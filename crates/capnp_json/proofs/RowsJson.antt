@@ -9,7 +9,7 @@ use Rattle.capnp_floats.specs.declared.width.Width.TheVariants.{Float64}
 use Rattle.capnp_json_text.specs.Writing.{byte_written}
 use Rattle.capnp_schema.specs.Types.{AnyPointerType, BoolType, DataType, EnumType, IntType, ListType, StructType, TextType, UIntType, VoidType}
 use Rattle.capnp_records.specs.Record as value
-use Rattle.capnp_records.specs.Record.{Active, NoUnion, Unknown, Value, Values}
+use Rattle.capnp_records.specs.Record.{Active, NoUnion, Unknown}
 use Rattle.capnp_json.specs.Json.{json_of, json_within, plain}
 use Rattle.capnp_json.specs.Pieces.{FloatNumber, known_pieces, said}
 use Rattle.capnp_json.specs.declared.error.JsonError.TheVariants.{Read, TextNotUtf8, UntypedHasNoJson}

@@ -1,15 +1,14 @@
 -- Names of a set that the check of names passed are distinct.
-use Rattle.std.proofs.Common.{◌≡◌, ◌≢◌, ℕ, zero, suc, ◌<◌, ◌≤◌, inl, inr, Bool, true, false, List, [], ◌∷◌, length, map, slice_get, Some, None, refl, ap, sym, ◌∙◌, arith}
+use Rattle.std.proofs.Common.{◌≡◌, ◌≢◌, ℕ, zero, suc, ◌≤◌, inl, inr, Bool, true, false, List, [], ◌∷◌, length, map, slice_get, Some, None, refl, ap, sym, ◌∙◌, arith}
 use Rattle.std.specs.Option.{unwrap_or}
 use Rattle.std.proofs.lemmas.Bool.{cases_lt}
 use Rattle.std.proofs.lemmas.Option.{slice_get_past}
 use Rattle.capnp_schema.specs.Accepted.{IsAccepted}
-use Rattle.capnp_schema.specs.Schema.{Enum, Enumerant, Field, Node, Schemas, brand_at, enum_at, node_at, node_of, no_enum, no_node}
+use Rattle.capnp_schema.specs.Schema.{Enumerant, Field, Schemas, brand_at, enum_at, node_at, node_of, no_enum, no_node}
 use Rattle.capnp_json_fields.specs.Marks.{is_annotated}
 use Rattle.capnp_json_fields.specs.Names.{enumerant_name, field_name, name_id}
 use Rattle.capnp_json_names.specs.Distinct.{HasJsonNames, NoneMeetWhereApart}
-use Rattle.capnp_json_names.specs.Labels.{AreApart, Label, Meet, enumerant_label, enumerant_labels, field_label, field_labels}
-use Rattle.capnp_json_laws.specs.AsRead.{HasDistinctNames}
+use Rattle.capnp_json_names.specs.Labels.{AreApart, Label, enumerant_label, enumerant_labels, field_label, field_labels}
 use Rattle.capnp_json_laws.specs.Distinct.{CheckedNamesAreDistinct, HasOwnEnumerants}
 use Rattle.capnp_json_laws.proofs.Distinct.{fields_apart, of_its_node, own_name, own_text}
 

@@ -18,14 +18,14 @@ use Rattle.capnp_floats.specs.declared.width.Width.TheVariants.{Float32, Float64
 use Rattle.capnp_schema.specs.Schema.{Enumerant, Schemas, enum_at}
 use Rattle.capnp_schema.specs.Types.{SchemaType, VoidType, BoolType, IntType, UIntType, EnumType, TextType, DataType, StructType, ListType, AnyPointerType}
 use Rattle.capnp_records.specs.Record as value
-use Rattle.capnp_records.specs.Record.{Endless, Levels, Value, Values, NoValues, MoreValues}
+use Rattle.capnp_records.specs.Record.{Endless, Values, NoValues, MoreValues}
 use Rattle.capnp_json_fields.specs.Marks.{has_float_base}
 use Rattle.capnp_json_fields.specs.Names.{enumerant_name, enumerant_of_name}
 use Rattle.capnp_json_fields.specs.declared.fields.DataForm.{DataForm}
 use Rattle.capnp_json_fields.specs.declared.fields.DataForm.TheVariants.{Array, Base64, Hexadecimal}
 use Rattle.capnp_json_text.specs.Numbers.{after_number}
 use Rattle.capnp_json_text.specs.Values as json
-use Rattle.capnp_json_text.specs.Values.{Json, Elements, Element}
+use Rattle.capnp_json_text.specs.Values.{Json, Elements}
 use Rattle.capnp_json.specs.Leaves.{bits_of}
 use Rattle.capnp_from_json.specs.Errors.{refused}
 use Rattle.capnp_from_json.specs.Integers.{signed_of, unsigned_of}

@@ -2,7 +2,7 @@
 use Rattle.std.proofs.Common.{◌≡◌, ℕ, Ok, refl, ap, subst, ◌∙◌, arith}
 use Rattle.capnp_schema.specs.Types.{StructType}
 use Rattle.capnp_records.specs.Record as value
-use Rattle.capnp_records.specs.Record.{Endless, Record}
+use Rattle.capnp_records.specs.Record.{Record}
 use Rattle.capnp_json_text.specs.Values.{Json}
 use Rattle.capnp_from_json.specs.Leaves.{OfSlot}
 use Rattle.capnp_from_json.specs.Records.{Rules, read_json, record_of_json, root_of_json}

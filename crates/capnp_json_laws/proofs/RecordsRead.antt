@@ -20,7 +20,7 @@ use Rattle.capnp_json_fields.specs.Names.{field_name, field_of_name}
 use Rattle.capnp_json_fields.specs.declared.fields.DataForm.{DataForm}
 use Rattle.capnp_json_fields.specs.declared.fields.DataForm.TheVariants.{Array}
 use Rattle.capnp_json_text.specs.Values as json
-use Rattle.capnp_json_text.specs.Values.{Json, Elements, Members, NoElement, Element, NoMember, Member}
+use Rattle.capnp_json_text.specs.Values.{Json, Elements, Members, Member}
 use Rattle.capnp_from_json.specs.Errors.{Read, refused}
 use Rattle.capnp_from_json.specs.Leaves.{OfElement, OfGroup, OfSlot, Part}
 use Rattle.capnp_from_json.specs.Records.{Rules, as_elements, as_group, as_struct, element_count, elements_of_json, field_target, first_of_two, is_given, is_past, mark_of, member_given, member_put, member_read, members_of_json, part_of_kind, unless, value_of_json}

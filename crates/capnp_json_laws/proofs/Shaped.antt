@@ -22,7 +22,7 @@ use Rattle.capnp_records.proofs.Readings.{AllBelow, AllReadings, bytes_below_are
 use Rattle.capnp_records.specs.Facts.Members.{once_from_members}
 use Rattle.capnp_records.specs.Reading.{Below, Body, Reading, active_among, bodies_of, bytes_below, discriminant, element_value, elements_value, entered_value, first_pointer, kind_value, nth_body, nth_reading, non_union_parts, null, number_value, of_read, pointers_below, record_of, record_within, slot_value, struct_below, structs_below, tree_value, value_of, values_of}
 use Rattle.capnp_records.specs.Record as value
-use Rattle.capnp_records.specs.Record.{Levels, Value, Values, Union, Record, Parts, NoUnion, Active, Unknown, NoValues, MoreValues, is_there, levels_asked, one_less, values_from}
+use Rattle.capnp_records.specs.Record.{Levels, Value, Union, Record, NoUnion, Active, is_there, levels_asked, one_less, values_from}
 use Rattle.capnp_from_json.specs.Leaves.{OfElement, OfSlot}
 use Rattle.capnp_from_json.specs.Records.{part_of_kind}
 use Rattle.capnp_json_laws.specs.Fitting.{AllFit, Fits, HasUnion, IsShaped, MayBeNull, PartsFit, UnionFits, field_part}

@@ -1,10 +1,10 @@
 -- Parts that are begun, and what is left of the whole once they hold what they are to hold.
-use Rattle.std.proofs.Common.{ℕ, zero, suc, ◌≡◌, ◌<◌, refl, true, false, IsTrue, List, arith, ap, sym, subst, ◌∙◌, length}
+use Rattle.std.proofs.Common.{ℕ, zero, suc, ◌≡◌, ◌<◌, refl, true, false, List, ap, sym, subst, ◌∙◌, length}
 use Rattle.std.proofs.lemmas.Bool.{true≢false}
 use Rattle.capnp_wire.specs.Edits.{struct_in, with_pointer_tree, with_tree, zero_struct}
 use Rattle.capnp_wire.specs.Place.{struct_tree}
-use Rattle.capnp_wire.specs.Tree.{MoreTrees, NoTrees, StructTree, Tree, Trees, nth_tree, tree_count}
-use Rattle.capnp_arena.specs.Built.{IsBuilt, LeavesIn, built_at, place_words}
+use Rattle.capnp_wire.specs.Tree.{MoreTrees, NoTrees, StructTree, Tree, Trees, tree_count}
+use Rattle.capnp_arena.specs.Built.{LeavesIn, built_at}
 use Rattle.capnp_arena.specs.Facts.Laws.{IsInStruct, in_struct, struct_planted}
 use Rattle.capnp_arena.specs.Facts.Places.{then}
 use Rattle.capnp_arena.specs.Facts.Structs.{tree_struct}
@@ -17,7 +17,7 @@ use Rattle.capnp_arena.specs.declared.arena.Place.{Place}
 use Rattle.capnp_schema.specs.FieldLists.{index_of, typed_of}
 use Rattle.capnp_schema.specs.Facts.Groups.{is_shallow}
 use Rattle.capnp_schema.specs.Plan.{brand_size}
-use Rattle.capnp_schema.specs.Schema.{FieldKind, Group, Schemas, Slot, TypedField, node_of}
+use Rattle.capnp_schema.specs.Schema.{FieldKind, Group, Schemas, Slot, node_of}
 use Rattle.capnp_schema.specs.StructHandles.{generic_of, number_of, set_of}
 use Rattle.capnp_schema.specs.Types.{ListType, SchemaType, StructType, is_pointer}
 use Rattle.capnp_schema.specs.declared.schema.fields.Field.{Field}
@@ -35,7 +35,7 @@ use Rattle.capnp_records.specs.Record as value
 use Rattle.capnp_records.specs.Record.{Endless, Record, Value}
 use Rattle.capnp_records.specs.Step.{is_group_field}
 use Rattle.capnp_records.specs.Writes.Contents.{init_tree, new_list}
-use Rattle.capnp_records.specs.Writes.Overlay.{IsSwitchedTo, Turns, cleared_group, switched_struct, with_slot}
+use Rattle.capnp_records.specs.Writes.Overlay.{IsSwitchedTo, Turns, cleared_group, switched_struct}
 use Rattle.capnp_records.specs.Writes.Slots.{At, Fits}
 use Rattle.capnp_records.specs.Writes.TreeEnds.{offset_of}
 use Rattle.capnp_slots.specs.Fields.{IsRoomFor, IsSlot, field_brand, field_set, pointer_index, slot_with}

@@ -1,5 +1,5 @@
 -- What stands behind an item is shorter.
-use Rattle.std.proofs.Common.{ℕ, suc, ◌≡◌, ◌<◌, ◌≤◌, List, Option, None, Some, length, arith, sym}
+use Rattle.std.proofs.Common.{ℕ, ◌≡◌, ◌<◌, ◌≤◌, List, Option, None, Some, length, arith, sym}
 use Rattle.capnp_json_text.specs.Values.{following_item, most_items}
 use Rattle.capnp_from_json.proofs.Shorter.{following_shorter}
 

@@ -1,10 +1,10 @@
 -- Base64 and hexadecimal digits are read as the bytes for which they were written.
-use Rattle.std.proofs.Common.{◌≡◌, ℕ, zero, suc, ◌+◌, ◌*◌, ◌/◌, ◌%◌, ◌<◌, ◌==◌, ◌&&◌, nat_lt, Bool, true, false, cond, List, [], ◌∷◌, ◌++◌, All, flat_map, Option, Some, None, refl, ap, sym, subst, ◌∙◌, arith}
+use Rattle.std.proofs.Common.{◌≡◌, ℕ, zero, suc, ◌+◌, ◌*◌, ◌/◌, ◌%◌, ◌<◌, ◌==◌, ◌&&◌, nat_lt, Bool, true, false, cond, List, [], ◌∷◌, All, Option, Some, None, refl, ap, subst, ◌∙◌, arith}
 use Rattle.std.proofs.lemmas.Bool.Decides.{nat_tests}
 use Rattle.std.specs.Char.{digit_char, is_ascii_hexdigit}
 use Rattle.capnp_json_text.specs.Contents.{hex_value}
 use Rattle.capnp_json.specs.Leaves.{base64_digit, base64_text, hex_text}
-use Rattle.capnp_from_json.specs.Encodings.{base64_decoded, base64_value, before_bytes, hex_decoded, hex_pair, last_bytes, one_byte, three_bytes, two_bytes}
+use Rattle.capnp_from_json.specs.Encodings.{base64_decoded, base64_value, before_bytes, hex_decoded, hex_pair, one_byte, three_bytes, two_bytes}
 use Rattle.capnp_json_messages.specs.ReadBack.{IsDataReadBack}
 
 -- ---- what holds of each natural below a number ----

@@ -1,10 +1,9 @@
 -- What is written into an element of a list is put into its values.
-use Rattle.std.proofs.Common.{ℕ, zero, suc, ◌≡◌, ◌<◌, ◌==◌, inl, inr, refl, Bool, true, false, cond, Option, Some, None, arith, ap, sym, subst, ◌∙◌}
-use Rattle.std.specs.Prelude.{⊤}
+use Rattle.std.proofs.Common.{ℕ, zero, suc, ◌≡◌, ◌<◌, inl, inr, refl, Bool, true, false, Some, None, arith, ap, sym, subst, ◌∙◌}
 use Rattle.std.proofs.lemmas.Bool.{true≢false}
 use Rattle.capnp_wire.specs.Facts.Room.{HasBit_there, HasNumber_there, HasPointer_there}
-use Rattle.capnp_wire.specs.Elements.{HasPointer, HasStruct, reads_list, with_struct_element}
-use Rattle.capnp_wire.specs.Reading.{element_struct, list_length}
+use Rattle.capnp_wire.specs.Elements.{HasStruct, reads_list, with_struct_element}
+use Rattle.capnp_wire.specs.Reading.{list_length}
 use Rattle.capnp_wire.specs.Tree.{StructTree, Tree}
 use Rattle.capnp_wire.specs.WellFormed.{IsWellFormed}
 use Rattle.capnp_wire.specs.declared.size.ElementSize.TheVariants.{Byte, TwoBytes, FourBytes, EightBytes}
@@ -20,26 +19,25 @@ use Rattle.capnp_records.proofs.ElementChanges.{change_struct}
 use Rattle.capnp_records.proofs.ElementEnd.{ElementCopied, ElementPut, ElementSuits, element_copies, element_gives, element_put, suits_stored}
 use Rattle.capnp_records.proofs.StepElement.{sound_put, struct_there}
 use Rattle.capnp_records.specs.Call.{Source}
-use Rattle.capnp_records.specs.Facts.ListValues.{count_values_from, element_changed, list_read, nth_values_from}
+use Rattle.capnp_records.specs.Facts.ListValues.{count_values_from, element_changed, list_read}
 use Rattle.capnp_records.specs.Facts.Numbers.{IsStored, stored_given}
-use Rattle.capnp_records.specs.Given.{Copies, Fails, Gives, Given, given_element, given_slot}
+use Rattle.capnp_records.specs.Given.{given_element, given_slot}
 use Rattle.capnp_records.specs.Operation.{new_element}
 use Rattle.capnp_records.specs.Part.{nth_value, value_count, with_value}
-use Rattle.capnp_records.specs.Reading.{number_value, reads, value_of}
+use Rattle.capnp_records.specs.Reading.{reads, value_of}
 use Rattle.capnp_records.specs.Record as value
-use Rattle.capnp_records.specs.Record.{Endless, MoreValues, NoValues, Value, Values, values_from}
+use Rattle.capnp_records.specs.Record.{Endless, MoreValues, NoValues, Value, Values}
 use Rattle.capnp_records.specs.Steps.ElementEnds.{element_content_value}
 use Rattle.capnp_records.specs.Steps.Stand.{seen_element}
 use Rattle.capnp_records.specs.Writes.Contents.{SourceFits}
 use Rattle.capnp_records.specs.Writes.ElementEnds.{HasElementThere, element_source_tree, element_written}
-use Rattle.capnp_records.specs.Writes.Overlay.{stored_number}
 use Rattle.capnp_records.specs.Writes.Slots.{Content, Fits}
 use Rattle.capnp_records.specs.Writes.Stand.{ListSound}
 use Rattle.capnp_slots.specs.ElementSets.{element_content, element_given}
 use Rattle.capnp_from_json.specs.LeafReads.{is_typed, leaf_value}
 use Rattle.capnp_from_json.specs.declared.leaves.Leaf.{Leaf}
 use Rattle.capnp_from_json.specs.declared.leaves.Leaf.TheVariants as leaf
-use Rattle.capnp_json_messages.specs.Put.{HasNew, IsListOf, PutsAt}
+use Rattle.capnp_json_messages.specs.Put.{IsListOf, PutsAt}
 use Rattle.capnp_json_messages.specs.Ways.{is_struct_type}
 use Rattle.capnp_json_messages.specs.Steps.Sources.{leaf_source}
 use Rattle.capnp_json_messages.proofs.LeafContents.{GivesLeaf, GivesValue, gives_leaf}

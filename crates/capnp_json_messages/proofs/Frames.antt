@@ -1,5 +1,5 @@
 -- Frames one after another, and of what does nothing.
-use Rattle.std.proofs.Common.{ℕ, ◌≡◌, inl, refl, List, arith}
+use Rattle.std.proofs.Common.{ℕ, inl, refl, List, arith}
 use Rattle.capnp_arena.specs.Built.{IsBuilt, place_words}
 use Rattle.capnp_arena.specs.Facts.Places.{at_then, then, unchanged}
 use Rattle.capnp_arena.specs.Forest.{Changes, Forest}

@@ -1,5 +1,5 @@
 -- Rows of values of which the first are read, and what is read behind them.
-use Rattle.std.proofs.Common.{ℕ, zero, suc, ◌≡◌, ◌<◌, refl, Ok, Err, arith, ap, sym, ◌∙◌}
+use Rattle.std.proofs.Common.{ℕ, zero, suc, ◌≡◌, ◌<◌, refl, Ok, Err, arith, ap, sym}
 use Rattle.capnp_records.specs.Part.{value_count, with_value}
 use Rattle.capnp_records.specs.Record.{MoreValues, NoValues, Value, Values}
 use Rattle.capnp_from_json.specs.Errors.{IsErrorOf, Read}

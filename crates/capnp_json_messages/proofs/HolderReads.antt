@@ -15,7 +15,7 @@ use Rattle.capnp_json_text.specs.Faults.{fault_of}
 use Rattle.capnp_json_text.specs.Laws.{StandsInSteps}
 use Rattle.capnp_json_text.specs.Readings.{after_blanks}
 use Rattle.capnp_json_text.specs.Values.{json_at, json_value}
-use Rattle.capnp_from_json.specs.Errors.{IsErrorOf, refused}
+use Rattle.capnp_from_json.specs.Errors.{refused}
 use Rattle.capnp_from_json.specs.Leaves.{Target}
 use Rattle.capnp_from_json.specs.Records.{Rules, all_levels, field_target, value_of_json}
 use Rattle.capnp_from_json.specs.declared.error.Error.{Error}
@@ -24,7 +24,7 @@ use Rattle.capnp_from_json.specs.declared.reading.Reading.{Reading}
 use Rattle.capnp_from_json.proofs.Refusals.{error_same}
 use Rattle.capnp_json_messages.specs.Holders.{IsHolderOf, text_value, value_in_root}
 use Rattle.capnp_json_messages.specs.Started.{new_struct}
-use Rattle.capnp_json_messages.specs.Walks.{AreRules, FieldRead, IsRefused, field_json}
+use Rattle.capnp_json_messages.specs.Walks.{FieldRead, IsRefused, field_json}
 use Rattle.capnp_json_messages.proofs.NewLists.{new_record, new_room}
 
 -- the value of a text, by the value with which it begins behind blanks

@@ -24,7 +24,7 @@ use Rattle.capnp_records.specs.Facts.ListValues.{list_read}
 use Rattle.capnp_records.specs.Part.{value_count, with_value}
 use Rattle.capnp_records.specs.Reading.{reads, value_of}
 use Rattle.capnp_records.specs.Record as value
-use Rattle.capnp_records.specs.Record.{Endless, Record, Value, Values}
+use Rattle.capnp_records.specs.Record.{Endless, Record, Values}
 use Rattle.capnp_records.specs.Writes.Contents.{new_list}
 use Rattle.capnp_records.specs.Writes.ElementEnds.{HasElementThere, element_written}
 use Rattle.capnp_records.specs.Writes.Slots.{At, Fits}

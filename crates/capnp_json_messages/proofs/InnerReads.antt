@@ -1,8 +1,8 @@
 -- What is read into an element of a list: a leaf, a struct or a list.
-use Rattle.std.proofs.Common.{ℕ, ◌≡◌, Bool, true, List, [], Option, Ok, refl, ap, sym, subst, ◌∙◌}
+use Rattle.std.proofs.Common.{ℕ, ◌≡◌, Bool, List, [], Option, Ok, refl, ap, sym, subst, ◌∙◌}
 use Rattle.capnp_arena.specs.Built.{built_at}
 use Rattle.capnp_arena.specs.Forest.{tree}
-use Rattle.capnp_arena.specs.Frame.{LeavesPointer, LeavesStruct}
+use Rattle.capnp_arena.specs.Frame.{LeavesStruct}
 use Rattle.capnp_arena.specs.Segment.{segment}
 use Rattle.capnp_arena.specs.declared.arena.Arena.{Arena}
 use Rattle.capnp_arena.specs.declared.arena.Place.{Place}
@@ -16,7 +16,6 @@ use Rattle.capnp_schema.specs.declared.schema.structs.StructSchema.{StructSchema
 use Rattle.capnp_records.specs.Reading.{reads, value_of}
 use Rattle.capnp_records.specs.Record as value
 use Rattle.capnp_records.specs.Record.{Endless, Value, Values}
-use Rattle.capnp_slots.specs.Standing.{IsUnder}
 use Rattle.capnp_json_fields.specs.declared.fields.DataForm.{DataForm}
 use Rattle.capnp_json_fields.specs.declared.fields.DataForm.TheVariants.{Array}
 use Rattle.capnp_from_json.specs.Errors.{IsErrorOf, Read}
@@ -29,8 +28,7 @@ use Rattle.capnp_from_json.specs.declared.reading.Reading.{Reading}
 use Rattle.capnp_json_messages.specs.Opened.{list_opened, record_opened}
 use Rattle.capnp_json_messages.specs.Put.{HasNew, PutsAt}
 use Rattle.capnp_json_messages.specs.Rows.{row_set, row_type}
-use Rattle.capnp_json_messages.specs.Started.{InnerListStarted, InnerStarted}
-use Rattle.capnp_json_messages.specs.Steps.Walks.{ListRead, elements_json}
+use Rattle.capnp_json_messages.specs.Started.{InnerStarted}
 use Rattle.capnp_json_messages.specs.Walks.{AreRules, ElementRead, IsRead, IsRefused, StructRead, element_json, members_json}
 use Rattle.capnp_json_messages.specs.Ways.{IsLeafType, IsListType, IsStructType}
 use Rattle.capnp_json_messages.specs.declared.opened.Opened.{Opened}

@@ -1,5 +1,5 @@
 -- Decimal digits are read as the integer for which they were written.
-use Rattle.std.proofs.Common.{◌≡◌, ℕ, ℤ, pos, negsuc, zero, suc, ◌+◌, ◌-◌, ◌*◌, ◌/◌, ◌%◌, ◌^◌, ◌<◌, ◌≤◌, ◌==◌, nat_lt, Bool, true, false, cond, List, [], ◌∷◌, ◌++◌, length, take, decimal, Option, Some, None, refl, ap, sym, subst, ◌∙◌, arith, lit<}
+use Rattle.std.proofs.Common.{◌≡◌, ℕ, ℤ, pos, negsuc, suc, ◌+◌, ◌-◌, ◌*◌, ◌/◌, ◌%◌, ◌^◌, ◌<◌, ◌≤◌, ◌==◌, nat_lt, Bool, true, false, cond, List, [], ◌∷◌, length, take, decimal, Option, Some, None, refl, ap, sym, ◌∙◌, arith, lit<}
 use Rattle.std.proofs.Math.Nat.{pow-le-pow_right}
 use Rattle.std.proofs.lemmas.Bool.Decides.{nat_tests}
 use Rattle.std.proofs.lemmas.Fmt.{decimal_is_IsNumeral}
@@ -12,7 +12,7 @@ use Rattle.std.specs.Option.{option_map}
 use Rattle.std.specs.Str.Parse.{AllDigits, digits_value_after}
 use Rattle.capnp_json_text.specs.Numbers.{after_digits, after_minus, after_sign}
 use Rattle.capnp_json_text.specs.Decimals.{Decimal, after_point, behind_letter, behind_point, decimal_by, decimal_of, digits_of, exponent_digits, exponent_of, fraction_digits, is_minus, natural_from, whole_digits}
-use Rattle.capnp_from_json.specs.Integers.{integer_of, is_in_signed, is_in_unsigned, natural_of, only_if, quotient_of, signed_of, unsigned_of, with_sign}
+use Rattle.capnp_from_json.specs.Integers.{integer_of, is_in_signed, is_in_unsigned, only_if, quotient_of, signed_of, unsigned_of, with_sign}
 use Rattle.capnp_json_messages.specs.ReadBack.{IsIntegerReadBack}
 
 -- ---- digits ----

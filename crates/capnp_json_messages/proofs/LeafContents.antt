@@ -1,5 +1,5 @@
 -- What a leaf is given as, and what is then written into a slot.
-use Rattle.std.proofs.Common.{ℕ, ◌≡◌, ◌<◌, ◌^◌, ◌==◌, ◌⊎◌, inl, inr, refl, [], Bool, true, false, cond, Option, Some, None, ap, sym, subst, ◌∙◌}
+use Rattle.std.proofs.Common.{ℕ, ◌≡◌, ◌==◌, ◌⊎◌, inl, inr, refl, [], Bool, true, false, cond, Option, Some, None, sym, subst, ◌∙◌}
 use Rattle.std.specs.Prelude.{⊤, pos}
 use Rattle.std.proofs.lemmas.Bool.{true≢false}
 use Rattle.capnp_device.specs.declared.error.ErrorKind.TheVariants.{TypeMismatch}
@@ -7,12 +7,11 @@ use Rattle.capnp_wire.specs.Tree as tree
 use Rattle.capnp_wire.specs.Tree.{StructTree, Tree}
 use Rattle.capnp_schema.specs.FieldLists.{index_of, typed_of}
 use Rattle.capnp_schema.specs.Schema.{Schemas, Value as SchemaValue, default_of}
-use Rattle.capnp_schema.specs.SlotValue.{default_bits}
-use Rattle.capnp_schema.specs.Types.{AnyPointerType, BoolType, DataType, EnumType, IntType, ListType, SchemaType, StructType, TextType, UIntType, VoidType, width}
+use Rattle.capnp_schema.specs.Types.{AnyPointerType, BoolType, DataType, EnumType, IntType, ListType, SchemaType, StructType, TextType, UIntType, VoidType}
 use Rattle.capnp_schema.specs.declared.schema.fields.Field.{Field}
 use Rattle.capnp_records.specs.Call.{Source}
 use Rattle.capnp_records.specs.Facts.GroupWrite.{cleared_content_value, suits_cleared}
-use Rattle.capnp_records.specs.Facts.NewTrees.{IsCopied, copied_given}
+use Rattle.capnp_records.specs.Facts.NewTrees.{copied_given}
 use Rattle.capnp_records.specs.Facts.Numbers.{IsStored, number_content_value, stored_given, suits_number}
 use Rattle.capnp_records.specs.Given.{Copies, Fails, Gives, Given, given_slot}
 use Rattle.capnp_records.specs.Laws.{IsFieldAt}
@@ -20,8 +19,7 @@ use Rattle.capnp_records.specs.Reading.{slot_value}
 use Rattle.capnp_records.specs.Record as value
 use Rattle.capnp_records.specs.Record.{Endless, Value}
 use Rattle.capnp_records.specs.Writes.Contents.{SourceFits}
-use Rattle.capnp_records.specs.Writes.Overlay.{cleared_content, content_value}
-use Rattle.capnp_records.specs.Writes.Slots.{Suits}
+use Rattle.capnp_records.specs.Writes.Overlay.{cleared_content}
 use Rattle.capnp_slots.specs.Fields.{IsRoomFor, IsSlot, field_brand, field_set, slot_with}
 use Rattle.capnp_slots.specs.Primitives.{given_content, set_content}
 use Rattle.capnp_from_json.specs.LeafReads.{is_typed, leaf_value}

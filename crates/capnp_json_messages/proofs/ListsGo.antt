@@ -1,16 +1,16 @@
 -- The elements of an array, one behind the other, in a list.
-use Rattle.std.proofs.Common.{ℕ, suc, ◌≡◌, ◌+◌, ◌<◌, ◌≤◌, ◌^◌, Bool, List, Option, None, Some, Ok, length, refl, arith, ap, sym, subst, ◌∙◌}
+use Rattle.std.proofs.Common.{ℕ, suc, ◌≡◌, ◌+◌, ◌<◌, ◌≤◌, ◌^◌, Bool, List, Option, None, Some, Ok, refl, arith, ap, sym, subst, ◌∙◌}
 use Rattle.capnp_wire.specs.Tree.{Tree}
 use Rattle.capnp_schema.specs.Schema.{Schemas}
 use Rattle.capnp_schema.specs.Types.{SchemaType}
 use Rattle.capnp_records.specs.Operation.{new_element}
 use Rattle.capnp_records.specs.Part.{nth_value, value_count, with_value}
-use Rattle.capnp_records.specs.Record.{NoValues, Value, Values, values_from}
+use Rattle.capnp_records.specs.Record.{Value, Values, values_from}
 use Rattle.capnp_records.specs.Writes.Contents.{new_list}
 use Rattle.capnp_json_text.specs.Laws.{StandsInSteps}
 use Rattle.capnp_json_text.specs.Values.{Element, Elements, NoElement, elements_of, following_item, json_at}
 use Rattle.capnp_json_fields.specs.declared.fields.DataForm.TheVariants.{Array}
-use Rattle.capnp_from_json.specs.Errors.{IsErrorOf, Read}
+use Rattle.capnp_from_json.specs.Errors.{Read}
 use Rattle.capnp_from_json.specs.LeafReads.{under}
 use Rattle.capnp_from_json.specs.Leaves.{OfElement}
 use Rattle.capnp_from_json.specs.Records.{Rules, element_count, elements_of_json, first_of_two}
@@ -19,7 +19,7 @@ use Rattle.capnp_from_json.specs.declared.reading.Reading.{Reading}
 use Rattle.capnp_from_json.proofs.Refusals.{error_same}
 use Rattle.capnp_json_messages.specs.Put.{HasNew, IsListOf}
 use Rattle.capnp_json_messages.specs.Steps.Walks.{ListRead, elements_json}
-use Rattle.capnp_json_messages.specs.Walks.{AreRules, ElementRead, IsRead, IsRefused, element_json}
+use Rattle.capnp_json_messages.specs.Walks.{AreRules, ElementRead, IsRefused, element_json}
 use Rattle.capnp_json_messages.proofs.ElementPuts.{count_put, put_other}
 use Rattle.capnp_json_messages.proofs.Fronts.{front_all, front_more, front_refused, in_front, nothing_first}
 use Rattle.capnp_json_messages.proofs.NewLists.{new_count, new_is_list, new_value}

@@ -1,7 +1,7 @@
 -- The members of an object, one behind the other.
-use Rattle.std.proofs.Common.{ℕ, ◌≡◌, ◌-◌, ◌≤◌, Bool, List, [], Option, None, Some, Ok, length, drop, refl, ap, sym, subst, ◌∙◌}
+use Rattle.std.proofs.Common.{ℕ, ◌≡◌, ◌-◌, ◌≤◌, List, [], Option, None, Some, length, drop, refl, ap, sym, subst, ◌∙◌}
 use Rattle.capnp_wire.specs.Tree.{StructTree}
-use Rattle.capnp_schema.specs.FieldLists.{IsFieldOf, field_schema, index_of, typed_of}
+use Rattle.capnp_schema.specs.FieldLists.{field_schema, index_of, typed_of}
 use Rattle.capnp_schema.specs.Laws.{struct_spots}
 use Rattle.capnp_schema.specs.Query.{records_of}
 use Rattle.capnp_schema.specs.StructHandles.{number_of, set_of}
@@ -9,7 +9,6 @@ use Rattle.capnp_schema.specs.declared.schema.fields.Field.{Field}
 use Rattle.capnp_schema.specs.declared.schema.structs.StructSchema.{StructSchema}
 use Rattle.capnp_records.specs.Facts.FieldWrite.{fits_after, writes_refl}
 use Rattle.capnp_records.specs.Facts.GroupWrite.{turns_trans}
-use Rattle.capnp_records.specs.Part.{with_part}
 use Rattle.capnp_records.specs.Reading.{reads}
 use Rattle.capnp_records.specs.Record.{Record, Value}
 use Rattle.capnp_records.specs.Writes.Overlay.{Turns}
@@ -17,18 +16,17 @@ use Rattle.capnp_slots.specs.Fields.{field_brand, field_set}
 use Rattle.capnp_slots.specs.Standing.{IsUnder}
 use Rattle.capnp_json_text.specs.Contents.{string_content}
 use Rattle.capnp_json_text.specs.Laws.{StandsInSteps}
-use Rattle.capnp_json_text.specs.Values.{Json, Members, following_item, json_at, member_value, members_of, most_items}
+use Rattle.capnp_json_text.specs.Values.{Members, following_item, json_at, member_value, members_of, most_items}
 use Rattle.capnp_json_fields.specs.Names.{field_of_name}
-use Rattle.capnp_from_json.specs.Errors.{IsErrorOf, Read}
+use Rattle.capnp_from_json.specs.Errors.{Read}
 use Rattle.capnp_from_json.specs.Given.{named_read}
 use Rattle.capnp_from_json.specs.Leaves.{Target}
-use Rattle.capnp_from_json.specs.Records.{MembersRead, Rules, field_target, member_put, member_read, members_of_json, value_of_json}
+use Rattle.capnp_from_json.specs.Records.{MembersRead, Rules, member_put, member_read, members_of_json, value_of_json}
 use Rattle.capnp_from_json.specs.declared.error.Error.{Error}
 use Rattle.capnp_from_json.specs.declared.reading.Reading.{Reading}
 use Rattle.capnp_from_json.proofs.Refusals.{error_same, error_through}
-use Rattle.capnp_json_messages.specs.Reads.{PutsInto}
 use Rattle.capnp_json_messages.specs.Steps.Walks.{MemberRead}
-use Rattle.capnp_json_messages.specs.Walks.{AreRules, FieldRead, IsRead, IsRefused, StructRead, field_json, members_json}
+use Rattle.capnp_json_messages.specs.Walks.{AreRules, FieldRead, IsRefused, StructRead, field_json, members_json}
 
 -- the record of a struct under its schema
 abbrev pub record_at : StructSchema → StructTree → Record

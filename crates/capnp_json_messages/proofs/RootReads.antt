@@ -1,5 +1,5 @@
 -- The root of a new message, and the record of a text.
-use Rattle.std.proofs.Common.{ℕ, ◌≡◌, ◌-◌, Bool, IsTrue, List, [], Option, None, Some, Ok, Err, length, refl, ap, sym, subst, ◌∙◌}
+use Rattle.std.proofs.Common.{ℕ, ◌≡◌, ◌-◌, Bool, IsTrue, List, [], Option, None, Some, Ok, length, refl, ap, sym, subst, ◌∙◌}
 use Rattle.capnp_wire.specs.Edits.{is_struct, struct_in, zero_struct}
 use Rattle.capnp_wire.specs.Place.{struct_tree}
 use Rattle.capnp_wire.specs.Tree.{StructTree, Tree}
@@ -21,7 +21,7 @@ use Rattle.capnp_json_text.specs.Faults.{fault_of}
 use Rattle.capnp_json_text.specs.Laws.{StandsInSteps}
 use Rattle.capnp_json_text.specs.Readings.{after_blanks}
 use Rattle.capnp_json_text.specs.Values.{json_at}
-use Rattle.capnp_from_json.specs.Errors.{IsErrorOf, Read, refused}
+use Rattle.capnp_from_json.specs.Errors.{refused}
 use Rattle.capnp_from_json.specs.Records.{Rules, all_levels, read_json, record_of_json, root_of_json}
 use Rattle.capnp_from_json.specs.declared.error.Error.{Error}
 use Rattle.capnp_from_json.specs.declared.error.RefusalKind.TheVariants.{NotJson}
@@ -31,7 +31,7 @@ use Rattle.capnp_json_messages.specs.Messages.{IsRootOf, text_record}
 use Rattle.capnp_json_messages.specs.Opened.{record_opened}
 use Rattle.capnp_json_messages.specs.Started.{new_struct}
 use Rattle.capnp_json_messages.specs.Steps.Roots.{RootStarted}
-use Rattle.capnp_json_messages.specs.Walks.{AreRules, IsRead, IsRefused, StructRead, members_json}
+use Rattle.capnp_json_messages.specs.Walks.{AreRules, IsRefused, StructRead, members_json}
 use Rattle.capnp_json_messages.proofs.Begun.{struct_pointer, struct_tree_there}
 use Rattle.capnp_json_messages.proofs.NewLists.{new_record}
 use Rattle.capnp_json_messages.proofs.ReadParts.{record_is}

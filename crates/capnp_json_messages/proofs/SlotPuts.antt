@@ -1,10 +1,9 @@
 -- What is written into a slot, or into the struct of a group, is put into the record.
-use Rattle.std.proofs.Common.{ℕ, ◌≡◌, ◌<◌, refl, true, false, ap, sym, subst, ◌∙◌, length}
+use Rattle.std.proofs.Common.{ℕ, ◌≡◌, refl, true, false, ap, sym, subst, ◌∙◌}
 use Rattle.std.proofs.lemmas.Bool.{true≢false}
 use Rattle.capnp_wire.specs.Tree.{StructTree}
-use Rattle.capnp_schema.specs.Facts.Groups.{is_shallow}
 use Rattle.capnp_schema.specs.FieldLists.{index_of, typed_of}
-use Rattle.capnp_schema.specs.Schema.{FieldKind, Group, Schemas, Slot, TypedField, Value as SchemaValue, default_of, kind_default, node_of}
+use Rattle.capnp_schema.specs.Schema.{FieldKind, Group, Schemas, Slot, TypedField, Value as SchemaValue, default_of, kind_default}
 use Rattle.capnp_schema.specs.declared.schema.fields.Field.{Field}
 use Rattle.capnp_records.proofs.SlotWrite.{turns_with_slot}
 use Rattle.capnp_records.specs.Laws.{IsFieldAt}

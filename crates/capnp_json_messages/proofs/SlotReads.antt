@@ -1,5 +1,5 @@
 -- What is read into a slot once it leads to a struct or a list.
-use Rattle.std.proofs.Common.{ℕ, ◌≡◌, ◌-◌, Bool, false, List, [], Option, refl, ap, sym, subst, ◌∙◌}
+use Rattle.std.proofs.Common.{ℕ, ◌≡◌, ◌-◌, Bool, false, List, [], Option, ap, sym, subst, ◌∙◌}
 use Rattle.capnp_arena.specs.Built.{built_at}
 use Rattle.capnp_arena.specs.Forest.{tree}
 use Rattle.capnp_arena.specs.Frame.{LeavesPointer, LeavesStruct}

@@ -1,5 +1,5 @@
 -- Structs, lists and groups that are begun: what is left of the whole once they hold what they are to hold.
-use Rattle.std.specs.Prelude.{ℕ, List, ◌≡◌, ⊤, Bool, true}
+use Rattle.std.specs.Prelude.{ℕ, ◌≡◌, ⊤, Bool, true}
 use Rattle.capnp_wire.specs.Edits.{zero_struct}
 use Rattle.capnp_wire.specs.Tree.{StructTree}
 use Rattle.capnp_arena.specs.Built.{IsBuilt, built_at}

@@ -1,5 +1,5 @@
 -- What a string stands for, a character after another.
-use Rattle.std.proofs.Common.{◌≡◌, ℕ, zero, suc, ◌<◌, ◌≤◌, Bool, true, false, List, [], ◌∷◌, ◌++◌, length, Ok, Err, refl, ap, sym, ◌∙◌, append_assoc, append-nil, arith}
+use Rattle.std.proofs.Common.{◌≡◌, ℕ, zero, suc, ◌≤◌, Bool, true, false, List, [], ◌∷◌, ◌++◌, length, Ok, Err, refl, ap, sym, ◌∙◌, append_assoc, append-nil, arith}
 use Rattle.capnp_json_text.specs.Strings.{CharacterRead, after_character}
 use Rattle.capnp_json_text.specs.Contents.{character_content, more_content, string_content, string_content_within}
 use Rattle.capnp_json_text.proofs.ShorterTokens.{CharacterBelow, character_below}

@@ -1,14 +1,14 @@
 -- What a string of a UTF-8 text stands for is UTF-8.
-use Rattle.std.proofs.Common.{◌≡◌, ℕ, zero, suc, ◌+◌, ◌*◌, ◌%◌, ◌/◌, ◌-◌, ◌<◌, ◌≤◌, ◌==◌, ◌||◌, ◌&&◌, nat_lt, nat_le, Bool, true, false, cond, List, [], ◌∷◌, ◌++◌, length, drop, get_or, Ok, Err, refl, ap, sym, subst, ◌∙◌, length-append, arith}
+use Rattle.std.proofs.Common.{◌≡◌, ℕ, zero, suc, ◌+◌, ◌*◌, ◌%◌, ◌/◌, ◌-◌, ◌<◌, ◌≤◌, ◌==◌, ◌&&◌, nat_lt, Bool, true, false, cond, List, [], ◌∷◌, ◌++◌, length, drop, get_or, Ok, Err, refl, ap, sym, subst, ◌∙◌, length-append, arith}
 use Rattle.std.specs.Prelude.{⊤}
 use Rattle.std.proofs.lemmas.Bool.Decides.{nat_tests}
 use Rattle.std.proofs.lemmas.Str.{IsUtf8-append, IsUtf8-encode, IsUtf8-nil, encode_ascii, len_utf8_bounds, length-encode}
 use lib.Utf8.{scalar, scalars, encode, encodes, next}
-use Rattle.std.specs.Char.{encode_utf8, is_ascii_digit}
+use Rattle.std.specs.Char.{encode_utf8}
 use Rattle.std.specs.Int.{is_in_range}
 use Rattle.std.specs.Str.{IsUtf8}
 use Rattle.capnp_json_text.specs.Readings.{Rest}
-use Rattle.capnp_json_text.specs.Strings.{CharacterRead, after_character, after_character_by, after_escape, after_string, after_unicode, character_of, is_short_escape, more_characters, with_more}
+use Rattle.capnp_json_text.specs.Strings.{after_character_by, after_escape, after_string, after_unicode, character_of, is_short_escape, more_characters, with_more}
 use Rattle.capnp_json_text.specs.declared.strings.Character.{Character}
 use Rattle.capnp_json_text.specs.declared.strings.Character.TheVariants.{Quote, Backslash, Control, Plain}
 use Rattle.capnp_json_text.specs.Contents.{character_bytes, character_content, character_content_by, escape_content, escaped_character, hex_value, more_content, short_meaning, string_content, unit_of}

@@ -11,7 +11,7 @@ use Rattle.capnp_json_text.specs.declared.kinds.Bracket.{Bracket}
 use Rattle.capnp_json_text.specs.declared.kinds.Bracket.TheVariants.{Square, Curly}
 use Rattle.capnp_json_text.specs.declared.kinds.Part.{Part}
 use Rattle.capnp_json_text.specs.declared.kinds.Part.TheVariants.{Value, Behind}
-use Rattle.capnp_json_text.proofs.Shorter.{Below, Shrinks, Stays, below_either, below_then, below_wider, blanks_shorter, only_shrinks, only_stays, shrinks_stays}
+use Rattle.capnp_json_text.proofs.Shorter.{Below, Shrinks, Stays, below_then, below_wider, blanks_shorter, only_shrinks, only_stays, shrinks_stays}
 use Rattle.capnp_json_text.proofs.ShorterTokens.{CharacterBelow, character_below, number_shrinks}
 
 -- ---- strings ----

@@ -1,8 +1,8 @@
 -- What is left of UTF-8 behind an escape is UTF-8.
-use Rattle.std.proofs.Common.{◌≡◌, ℕ, ◌+◌, ◌*◌, ◌%◌, ◌-◌, ◌<◌, ◌≤◌, ◌==◌, ◌||◌, Bool, true, false, cond, List, [], ◌∷◌, ◌++◌, Ok, Err, refl, ap, sym, subst, ◌∙◌, arith}
+use Rattle.std.proofs.Common.{◌≡◌, ℕ, ◌+◌, ◌-◌, ◌<◌, ◌==◌, Bool, true, false, cond, List, [], ◌∷◌, ◌++◌, Ok, Err, refl, ap, sym, subst, arith}
 use Rattle.std.proofs.lemmas.Bool.Decides.{nat_tests}
 use Rattle.std.proofs.lemmas.Str.{IsUtf8-past_char, encode_ascii}
-use Rattle.std.specs.Char.{encode_utf8, is_ascii_hexdigit}
+use Rattle.std.specs.Char.{is_ascii_hexdigit}
 use Rattle.std.specs.Str.{IsUtf8}
 use Rattle.capnp_json_text.specs.Readings.{Rest, then_read, after_one, after_only}
 use Rattle.capnp_json_text.specs.Strings.{after_d, after_escape, after_second_half, after_two_digits, after_unicode, is_d, is_high, is_low, is_octal, is_short_escape}

@@ -1,6 +1,6 @@
 -- What a reading answers depends on the bytes that it reads, and on the first byte of those that are left.
-use Rattle.std.proofs.Common.{◌≡◌, ℕ, zero, suc, ◌<◌, ◌≤◌, ◌==◌, ◌||◌, Bool, true, false, cond, List, [], ◌∷◌, ◌++◌, length, Ok, Err, refl, ap, sym, subst, ◌∙◌, append_assoc, arith}
-use Rattle.std.specs.Char.{is_ascii_digit, is_ascii_hexdigit}
+use Rattle.std.proofs.Common.{◌≡◌, ℕ, ◌==◌, ◌||◌, Bool, true, false, cond, List, [], ◌∷◌, ◌++◌, Ok, Err, refl, ap, sym, subst, ◌∙◌, append_assoc}
+use Rattle.std.specs.Char.{is_ascii_digit}
 use Rattle.capnp_json_text.specs.Readings.{Rest, then_read, after_one, after_only, after_blanks, is_blank}
 use Rattle.capnp_json_text.specs.Numbers.{after_digits, after_exponent, after_fraction, after_minus, after_number, after_sign, after_some_digits, after_whole}
 

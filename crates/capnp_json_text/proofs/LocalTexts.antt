@@ -1,9 +1,9 @@
 -- What is read of a text depends on the bytes that are read, and on the first byte of those that are left.
-use Rattle.std.proofs.Common.{◌≡◌, ℕ, zero, suc, ◌<◌, ◌≤◌, ◌==◌, ◌||◌, Bool, true, false, cond, List, [], ◌∷◌, ◌++◌, length, Option, Some, None, Ok, Err, refl, ap, sym, subst, ◌∙◌, arith}
+use Rattle.std.proofs.Common.{◌≡◌, ℕ, zero, suc, ◌<◌, ◌≤◌, ◌==◌, Bool, true, false, cond, List, [], ◌∷◌, ◌++◌, length, Option, Some, None, Ok, Err, refl, ap, sym, subst, ◌∙◌, arith}
 use Rattle.std.specs.Char.{is_ascii_hexdigit}
 use Rattle.capnp_json_text.specs.Readings.{Rest, then_read, after_one, after_only, after_blanks}
 use Rattle.capnp_json_text.specs.Numbers.{after_number}
-use Rattle.capnp_json_text.specs.Strings.{after_character, after_character_by, after_d, after_escape, after_second_half, after_string, after_two_digits, after_unicode, character_of, is_d, is_high, is_low, is_octal, is_short_escape, more_characters, with_more}
+use Rattle.capnp_json_text.specs.Strings.{after_character_by, after_d, after_escape, after_second_half, after_string, after_two_digits, after_unicode, character_of, is_d, is_high, is_low, is_octal, is_short_escape, more_characters, with_more}
 use Rattle.capnp_json_text.specs.Texts.{Begun, after_colon, after_false, after_name, after_null, after_part, after_text, after_true, after_value, at_end, begun, begun_by, ended, first_element, first_member, gone_on, held, kind_of, next_element, next_member}
 use Rattle.capnp_json_text.specs.declared.strings.Character.{Character}
 use Rattle.capnp_json_text.specs.declared.strings.Character.TheVariants.{Quote, Backslash, Control, Plain}
@@ -14,10 +14,10 @@ use Rattle.capnp_json_text.specs.declared.kinds.Bracket.TheVariants.{Square, Cur
 use Rattle.capnp_json_text.specs.declared.kinds.Part.{Part}
 use Rattle.capnp_json_text.specs.declared.kinds.Part.TheVariants.{Value, Behind}
 use Rattle.capnp_json_text.specs.Laws.{IsRefusedThere}
-use Rattle.capnp_json_text.proofs.Shorter.{Below, blanks_shorter, shrinks_stays, below_wider}
+use Rattle.capnp_json_text.proofs.Shorter.{Below, blanks_shorter}
 use Rattle.capnp_json_text.proofs.ShorterTokens.{escape_shrinks}
 use Rattle.capnp_json_text.proofs.Enough.{name_shrinks, part_at_stays, part_equation, string_equation}
-use Rattle.capnp_json_text.proofs.Local.{IsLocal, Local, BeginsAlike, at_once, blanks_local, branch_local, cons_local, either_local, failed, failed_local, first_local, nothing_local, number_local, one_local, only_local, stop_of, taken, taken_local, then_at, then_local, with_stop}
+use Rattle.capnp_json_text.proofs.Local.{IsLocal, Local, at_once, blanks_local, branch_local, cons_local, either_local, failed, failed_local, first_local, nothing_local, number_local, one_local, only_local, taken, taken_local, then_at, then_local}
 
 -- ---- strings ----
 

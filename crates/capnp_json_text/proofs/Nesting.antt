@@ -1,8 +1,8 @@
 -- What is left to read, with the brackets that are open.
 use Rattle.std.proofs.Common.{◌≡◌, ℕ, Bool, true, false, List, [], ◌∷◌, ◌++◌, Option, Some, None, Ok, Err, refl, ap, sym, ◌∙◌}
 use Rattle.capnp_json_text.specs.Readings.{Rest, then_read}
-use Rattle.capnp_json_text.specs.Strings.{CharacterRead, after_character, after_string, more_characters}
-use Rattle.capnp_json_text.specs.Texts.{Begun, after_part, begun, gone_on}
+use Rattle.capnp_json_text.specs.Strings.{after_character, after_string, more_characters}
+use Rattle.capnp_json_text.specs.Texts.{after_part, begun, gone_on}
 use Rattle.capnp_json_text.specs.declared.kinds.Bracket.{Bracket}
 use Rattle.capnp_json_text.specs.declared.kinds.Part.{Part}
 use Rattle.capnp_json_text.specs.declared.kinds.Part.TheVariants.{Value, Behind}

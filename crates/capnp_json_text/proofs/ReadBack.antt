@@ -4,7 +4,7 @@ use Rattle.std.proofs.lemmas.Bool.Decides.{nat_tests}
 use Rattle.std.proofs.lemmas.Str.{encode_ascii}
 use Rattle.std.specs.Char.{digit_char, encode_utf8, is_ascii_hexdigit}
 use Rattle.std.specs.Int.{is_in_range}
-use Rattle.capnp_json_text.specs.Readings.{Rest, after_one, then_read}
+use Rattle.capnp_json_text.specs.Readings.{after_one, then_read}
 use Rattle.capnp_json_text.specs.Strings.{after_character, after_character_by, after_escape, after_string, after_two_digits, character_of, more_characters, with_more}
 use Rattle.capnp_json_text.specs.declared.strings.Character.{Character}
 use Rattle.capnp_json_text.specs.declared.strings.Character.TheVariants.{Quote, Backslash, Control, Plain}

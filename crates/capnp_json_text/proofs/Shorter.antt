@@ -1,5 +1,5 @@
 -- What is left is shorter than what it was read from.
-use Rattle.std.proofs.Common.{◌≡◌, ℕ, suc, ◌<◌, ◌≤◌, ◌==◌, Bool, true, false, cond, List, [], ◌∷◌, length, Ok, Err, arith}
+use Rattle.std.proofs.Common.{ℕ, suc, ◌<◌, ◌≤◌, ◌==◌, Bool, true, false, cond, List, [], ◌∷◌, length, Ok, Err, arith}
 use Rattle.std.specs.Prelude.{⊤}
 use Rattle.capnp_json_text.specs.Readings.{Rest, then_read, after_one, after_only, after_blanks, is_blank}
 

@@ -1,13 +1,13 @@
 -- What is left behind the tokens of a text is shorter than what they were read from.
-use Rattle.std.proofs.Common.{◌≡◌, ℕ, zero, suc, ◌<◌, ◌≤◌, ◌==◌, ◌||◌, Bool, true, false, cond, List, [], ◌∷◌, length, Option, Some, None, Ok, Err, sym, subst, arith}
+use Rattle.std.proofs.Common.{◌≡◌, ℕ, suc, ◌<◌, ◌≤◌, ◌==◌, ◌||◌, Bool, cond, List, [], ◌∷◌, length, Ok, Err, sym, subst, arith}
 use Rattle.std.specs.Prelude.{⊤}
 use Rattle.std.specs.Char.{is_ascii_digit, is_ascii_hexdigit}
-use Rattle.capnp_json_text.specs.Readings.{Rest, then_read, after_one, after_only, after_blanks}
+use Rattle.capnp_json_text.specs.Readings.{Rest, then_read, after_one, after_only}
 use Rattle.capnp_json_text.specs.Numbers.{after_digits, after_exponent, after_fraction, after_minus, after_number, after_sign, after_some_digits, after_whole}
 use Rattle.capnp_json_text.specs.Strings.{CharacterRead, after_character, after_character_by, after_d, after_escape, after_second_half, after_two_digits, after_unicode, character_of, is_d, is_high, is_low, is_octal, is_short_escape, with_more}
 use Rattle.capnp_json_text.specs.declared.strings.Character.{Character}
 use Rattle.capnp_json_text.specs.declared.strings.Character.TheVariants.{Quote, Backslash, Control, Plain}
-use Rattle.capnp_json_text.proofs.Shorter.{Below, Shrinks, Stays, below_either, below_then, below_wider, blanks_shorter, one_shrinks, one_stays, only_shrinks, only_stays, shorter_either, shrinks_stays}
+use Rattle.capnp_json_text.proofs.Shorter.{Below, Shrinks, below_either, below_then, below_wider, one_shrinks, one_stays, only_shrinks, only_stays, shorter_either, shrinks_stays}
 
 -- ---- numbers ----
 

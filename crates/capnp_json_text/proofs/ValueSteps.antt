@@ -1,9 +1,9 @@
 -- What arrays and objects hold, one after another: the bounds of the definitions are enough.
-use Rattle.std.proofs.Common.{◌≡◌, ℕ, zero, suc, ◌-◌, ◌<◌, ◌≤◌, ◌==◌, Bool, true, false, cond, List, [], ◌∷◌, length, drop, Option, Some, None, Ok, Err, refl, ap, sym, ◌∙◌, arith}
+use Rattle.std.proofs.Common.{◌≡◌, ℕ, zero, suc, ◌-◌, ◌≤◌, ◌==◌, Bool, true, false, cond, List, [], ◌∷◌, length, drop, Option, Some, None, Ok, Err, refl, ap, ◌∙◌, arith}
 use Rattle.capnp_json_text.specs.Readings.{Rest, after_blanks}
 use Rattle.capnp_json_text.specs.Contents.{string_content}
-use Rattle.capnp_json_text.specs.Texts.{after_name, after_part, after_value, kind_of}
-use Rattle.capnp_json_text.specs.Values.{Json, Elements, Members, NoElement, Element, NoMember, Member, Null, Truth, Number, Text, Array, Object, closing, elements_of, elements_within, first_item, following_item, json_at, json_by, json_value, json_within, left, member_value, members_of, members_within, most_items, next_item, value_unless}
+use Rattle.capnp_json_text.specs.Texts.{after_name, after_value, kind_of}
+use Rattle.capnp_json_text.specs.Values.{Json, NoElement, Element, NoMember, Member, Null, Number, Array, Object, closing, elements_of, elements_within, first_item, following_item, json_at, json_by, json_value, json_within, left, member_value, members_of, members_within, most_items, next_item, value_unless}
 use Rattle.capnp_json_text.specs.Faults.{fault_of}
 use Rattle.capnp_json_text.specs.Laws.{IsReadInSteps, StandsInSteps}
 use Rattle.capnp_json_text.specs.declared.kinds.Kind.{Kind}

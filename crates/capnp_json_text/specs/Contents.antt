@@ -1,5 +1,5 @@
 -- What strings stand for (RFC 8259, section 7): bytes in UTF-8. Of bytes that are no string these are no words.
-use Rattle.std.specs.Prelude.{ℕ, zero, suc, ◌+◌, ◌-◌, ◌*◌, ◌%◌, List, [], ◌∷◌, ◌++◌, Bool, true, false, cond, ◌==◌, get_or, drop, length, Ok, Err}
+use Rattle.std.specs.Prelude.{ℕ, zero, suc, ◌+◌, ◌-◌, ◌*◌, ◌%◌, List, [], ◌∷◌, ◌++◌, true, false, cond, ◌==◌, get_or, drop, length, Ok, Err}
 use Rattle.std.specs.Char.{encode_utf8, is_ascii_digit}
 use Rattle.std.specs.Int.{is_in_range}
 use Rattle.capnp_json_text.specs.Strings.{CharacterRead, after_character, character_of}

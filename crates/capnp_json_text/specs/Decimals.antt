@@ -1,5 +1,5 @@
 -- What a number stands for: (-1)^s d 10^k. Of bytes that are no number these are no words.
-use Rattle.std.specs.Prelude.{ℕ, ◌+◌, ◌-◌, ◌*◌, List, [], ◌∷◌, ◌++◌, Bool, true, false, ◌||◌, cond, ◌==◌, length, take}
+use Rattle.std.specs.Prelude.{ℕ, ◌+◌, ◌-◌, ◌*◌, List, [], ◌∷◌, ◌++◌, Bool, false, ◌||◌, cond, ◌==◌, length, take}
 use Rattle.capnp_json_text.specs.Numbers.{after_digits, after_minus, after_sign}
 
 -- what stands before what is left

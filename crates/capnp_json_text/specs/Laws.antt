@@ -1,11 +1,11 @@
 -- Laws of the definitions: how a text is walked, without the bounds of the definitions.
-use Rattle.std.specs.Prelude.{ℕ, ◌-◌, List, [], ◌∷◌, ◌++◌, ◌≡◌, length, drop, Option, Some, None, Ok, Err}
+use Rattle.std.specs.Prelude.{ℕ, ◌-◌, List, ◌∷◌, ◌++◌, ◌≡◌, length, drop, Some, None, Ok, Err}
 use Rattle.capnp_json_text.specs.Strings.{after_character, after_string, more_characters}
 use Rattle.capnp_json_text.specs.Readings.{after_blanks}
 use Rattle.capnp_json_text.specs.Faults.{fault_of}
 use Rattle.capnp_json_text.specs.Contents.{character_content, more_content, string_content}
 use Rattle.capnp_json_text.specs.Texts.{after_part, after_text, begun, gone_on, kind_of}
-use Rattle.capnp_json_text.specs.Values.{Json, Elements, Members, NoElement, Element, NoMember, Member, elements_of, following_item, json_at, json_by, json_value, member_value, members_of}
+use Rattle.capnp_json_text.specs.Values.{Json, NoElement, Element, NoMember, Member, elements_of, following_item, json_at, json_by, json_value, member_value, members_of}
 use Rattle.capnp_json_text.specs.declared.kinds.Part.{Part}
 
 -- what is read: a string a character after another, and a value a part after another

@@ -1,5 +1,5 @@
 -- The active member of a struct whose members have discriminant values from 0 on, by the number at the discriminant's place.
-use Rattle.std.proofs.Common.{ℕ, ◌+◌, ◌*◌, ◌<◌, ◌≤◌, ◌≡◌, ◌≢◌, ◌∙◌, suc, zero, arith, ap, refl, sym, Bool, true, false, ◌==◌, List, [], ◌∷◌, Option, Some, None}
+use Rattle.std.proofs.Common.{ℕ, ◌+◌, ◌<◌, ◌≤◌, ◌≡◌, ◌≢◌, ◌∙◌, suc, zero, arith, ap, refl, sym, Bool, true, false, ◌==◌, List, [], ◌∷◌, Option, Some, None}
 use Rattle.std.proofs.lemmas.Bool.{eqb-true, true≢false}
 use Rattle.std.specs.Prelude.{◌&&◌}
 use Rattle.capnp_wire.specs.Standing.{struct_levels, struct_of}

@@ -1,6 +1,5 @@
 -- The parts that are shown of a value that was read are those of the part that it is seen as.
-use Rattle.std.proofs.Common.{ℕ, zero, suc, ◌+◌, ◌*◌, ◌<◌, ◌≤◌, ◌≡◌, ◌∙◌, refl, List, [], ◌∷◌, length, map, ap, arith, subst, sym, Err}
-use Rattle.capnp_device.specs.declared.error.ErrorKind.{ErrorKind}
+use Rattle.std.proofs.Common.{ℕ, zero, suc, ◌+◌, ◌*◌, ◌<◌, ◌≤◌, ◌≡◌, ◌∙◌, refl, List, length, ap, arith, subst, sym}
 use Rattle.capnp_schema.specs.Enums.{enum_set}
 use Rattle.capnp_schema.specs.Schema.{Schemas, VoidValue, node_of}
 use Rattle.capnp_schema.specs.StructHandles.{number_of, set_of}
@@ -11,7 +10,7 @@ use Rattle.capnp_dynamic_readers.specs.Shown.{no_schemas, set_seen, type_seen}
 use Rattle.capnp_dynamic_readers.specs.Typed.{IsOf, struct_type}
 use Rattle.capnp_dynamic_readers.specs.declared.dynamic_value.Reader.{Reader as DynamicValue}
 use Rattle.capnp_dynamic_readers.specs.declared.dynamic_value.Reader.TheVariants as dynamic
-use Rattle.capnp_check.specs.Faults.{AreAllPlaces, ShownPart, ShowsAtMost, ShowsMoreThan, most_steps, part_told, parts_from, parts_within, refused_parts, shown_within}
+use Rattle.capnp_check.specs.Faults.{AreAllPlaces, ShownPart, ShowsAtMost, ShowsMoreThan, most_steps, parts_from, parts_within, refused_parts, shown_within}
 use Rattle.capnp_check.specs.Places.{NoParts, TextParts, part_parts, root_parts}
 use Rattle.capnp_check.specs.declared.place.RefusedPlace.{RefusedPlace}
 use Rattle.capnp_show_engine.specs.Show.{struct_or_group}

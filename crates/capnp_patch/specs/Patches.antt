@@ -1,5 +1,5 @@
 -- What calls on a message's root, or on an empty one, leave, and what is written of it.
-use Rattle.std.specs.Prelude.{ℕ, suc, ◌-◌, ◌/◌, ◌≡◌, ◌⊎◌, ◌<◌, List, ◌++◌, Bool, true, false, not, ◌||◌, cond, nat_lt, length, take, Option, Some, None, Ok, Err}
+use Rattle.std.specs.Prelude.{ℕ, suc, ◌-◌, ◌/◌, ◌≡◌, ◌⊎◌, ◌<◌, List, ◌++◌, Bool, not, ◌||◌, cond, nat_lt, length, take, Option, Some, None, Ok, Err}
 use Rattle.std.specs.Io.KnownBytes.{Appends}
 use Rattle.capnp_device.specs.declared.error.ErrorKind.{ErrorKind}
 use Rattle.capnp_wire.specs.Depth.{IsShallow}

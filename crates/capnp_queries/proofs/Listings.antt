@@ -1,5 +1,5 @@
 -- Listings one after another, as they are made: a part of one, and what follows.
-use Rattle.std.proofs.Common.{ℕ, zero, suc, ◌+◌, ◌-◌, ◌<◌, ◌≤◌, List, [], ◌∷◌, ◌++◌, Bool, true, false, drop, length, map, Option, Some, None, Result, Ok, Err, ◌≡◌, ◌≢◌, ◌∙◌, add-one, ap, append-nil, append_assoc, arith, refl, subst, sym}
+use Rattle.std.proofs.Common.{ℕ, zero, suc, ◌+◌, ◌-◌, ◌<◌, ◌≤◌, List, [], ◌∷◌, ◌++◌, drop, length, map, Option, Some, None, Result, Ok, Err, ◌≡◌, ◌∙◌, add-one, ap, append-nil, append_assoc, arith, refl, subst, sym}
 use Rattle.std.proofs.lemmas.List.{length-append}
 use Rattle.std.specs.Prelude.{slice_get, unwrap_or}
 use Rattle.std.specs.declared.alloc.Global.{Global}
@@ -10,10 +10,9 @@ use Rattle.capnp_schema.specs.Schema.{Schemas, TypedField, fields_of, no_field}
 use Rattle.capnp_schema.specs.StructHandles.{number_of, set_of, struct_fields}
 use Rattle.capnp_schema.specs.declared.schema.structs.StructSchema.{StructSchema}
 use Rattle.capnp_queries.specs.Patterns.{Listing, Stop, all_listed, and_then, elements_from, field_step, listed}
-use Rattle.capnp_queries.specs.PatternsSeen.{IsFewEnough, IsListed, IsNotListed, IsStop, paths_seen}
+use Rattle.capnp_queries.specs.PatternsSeen.{IsFewEnough, IsListed, IsNotListed, paths_seen}
 use Rattle.capnp_queries.specs.declared.patterns.NotListed.{NotListed}
 use Rattle.capnp_queries.specs.declared.patterns.NotListed.TheVariants.{Refused, Unmade}
-use Rattle.capnp_queries.specs.declared.patterns.RefusedPath.{RefusedPath}
 
 abbrev pub Answer : Type 0
 Answer = Result (Vec (Vec Step Global) Global) NotListed

@@ -1,12 +1,12 @@
 -- The listing of a pattern by its first step, and of what a step reads.
-use Rattle.std.proofs.Common.{ℕ, List, [], ◌∷◌, ◌++◌, Bool, true, false, ◌||◌, Result, Ok, Err, length, ◌≡◌, ◌≢◌, ◌∙◌, ap, append-nil, arith, refl, subst, sym}
+use Rattle.std.proofs.Common.{ℕ, List, [], ◌∷◌, ◌++◌, Bool, true, false, ◌||◌, Result, Ok, Err, length, ◌≡◌, ◌∙◌, ap, append-nil, arith, refl, subst, sym}
 use Rattle.std.specs.declared.alloc.Global.{Global}
 use Rattle.std.specs.declared.vec.Vec.{Vec}
 use Rattle.capnp_call.specs.declared.calls.Step.{Step}
 use Rattle.capnp_device.specs.declared.error.ErrorKind.{ErrorKind}
 use Rattle.capnp_device.specs.declared.error.ErrorKind.TheVariants.{NotAContainer, UntypedStep}
 use Rattle.capnp_base.specs.declared.any_pointer.Reader.{Reader as AnyHandle}
-use Rattle.capnp_dynamic_readers.specs.Handles.{element_of, list_reader_of, schema_of}
+use Rattle.capnp_dynamic_readers.specs.Handles.{list_reader_of}
 use Rattle.capnp_dynamic_readers.specs.Seen.{value_seen}
 use Rattle.capnp_dynamic_readers.specs.Shown.{type_seen}
 use Rattle.capnp_dynamic_readers.specs.declared.dynamic_list.Reader.{Reader as ListHandle}
@@ -16,13 +16,11 @@ use Rattle.capnp_dynamic_readers.specs.declared.dynamic_value.Reader.TheVariants
 use Rattle.capnp_patch.specs.Gets.{Part, Reached, is_empty, step_read, value_part_seen}
 use Rattle.capnp_records.specs.Call.{PathStep}
 use Rattle.capnp_records.specs.Record as value
-use Rattle.capnp_records.specs.Record.{Value}
-use Rattle.capnp_schema.specs.Schema.{Schemas, fields_of}
-use Rattle.capnp_schema.specs.StructHandles.{number_of}
-use Rattle.capnp_schema.specs.Types.{ListType, SchemaType}
+use Rattle.capnp_schema.specs.Schema.{Schemas}
+use Rattle.capnp_schema.specs.Types.{SchemaType}
 use Rattle.capnp_wire.specs.Reading.{list_length}
 use Rattle.capnp_wire.specs.Standing.{list_of}
-use Rattle.capnp_queries.specs.Patterns.{Listing, all_listed, counted_steps, elements_from, is_each, is_left_out, listed, listing, read_listing, step_listing, steps_below, steps_listing, steps_meant, stopped, unread_listing}
+use Rattle.capnp_queries.specs.Patterns.{Listing, all_listed, elements_from, is_each, is_left_out, listed, listing, read_listing, step_listing, steps_below, steps_listing, steps_meant, stopped, unread_listing}
 use Rattle.capnp_queries.specs.PatternsSeen.{IsListed, IsNotListed, paths_seen}
 use Rattle.capnp_queries.specs.Steps.Listings.{each_listing}
 use Rattle.capnp_queries.specs.declared.patterns.NotListed.{NotListed}

@@ -1,5 +1,5 @@
 -- Worked rows of what is asked for by paths, and of the paths of patterns.
-use Rattle.std.specs.Prelude.{ℕ, ◌≡◌, refl, List, [], ◌∷◌, ◌++◌, false, Option, Some, None, Result, Ok, Err, codes, replicate}
+use Rattle.std.specs.Prelude.{ℕ, ◌≡◌, refl, List, [], ◌∷◌, ◌++◌, false, Option, Some, Result, Ok, Err, codes, replicate}
 use Rattle.std.specs.Option.{option_map}
 use Rattle.std.specs.Fmt.{digits}
 use Rattle.std.specs.Str.{is_utf8, chars}

@@ -3,7 +3,7 @@ use Rattle.std.proofs.Common.{ap, refl, subst, sym, ◌∙◌, ◌≡◌, ℕ, L
 use Rattle.capnp_device.specs.declared.error.ErrorKind.{ErrorKind}
 use Rattle.capnp_schema.specs.Schema.{Schemas, node_of}
 use Rattle.capnp_schema.specs.StructHandles.{number_of, set_of}
-use Rattle.capnp_records.specs.Text.{Out, text_of}
+use Rattle.capnp_records.specs.Text.{Out}
 use Rattle.capnp_float_texts.specs.Printed.{printed_float_text}
 use Rattle.capnp_float_texts.specs.Texts.{float_text_of}
 use Rattle.capnp_dynamic_readers.specs.Handles.{schema_of}

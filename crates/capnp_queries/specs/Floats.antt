@@ -4,7 +4,7 @@ use Rattle.std.specs.Option.{option_and_then}
 use Rattle.capnp_schema.specs.Query.{field_named, records_of}
 use Rattle.capnp_schema.specs.Schema.{Schemas, TypedField, fields_of}
 use Rattle.capnp_schema.specs.Types.{ListType, SchemaType, StructType}
-use Rattle.capnp_records.specs.Call.{ElementAt, FieldNamed, FieldNumber, PathStep}
+use Rattle.capnp_records.specs.Call.{FieldNamed, FieldNumber, PathStep}
 use Rattle.capnp_records.specs.Run.{root_type}
 use Rattle.capnp_json.specs.Json.{form_of, plain}
 use Rattle.capnp_json.specs.declared.forms.Form.{Form}

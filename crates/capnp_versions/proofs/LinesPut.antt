@@ -1,18 +1,15 @@
 -- What stands on a side, and lines one after another.
-use Rattle.std.proofs.Common.{ℕ, zero, suc, ◌+◌, ◌<◌, ◌≤◌, List, [], ◌∷◌, ◌++◌, Bool, true, false, Option, None, Some, codes, drop, get_or, length, nat_lt, arith, ap, append_assoc, refl, subst, sym, ◌≡◌, ◌∙◌}
+use Rattle.std.proofs.Common.{ℕ, ◌+◌, ◌<◌, ◌≤◌, List, ◌∷◌, ◌++◌, Bool, true, false, Option, None, Some, codes, drop, get_or, length, nat_lt, arith, ap, append_assoc, subst, sym, ◌≡◌, ◌∙◌}
 use Rattle.std.proofs.lemmas.Bool.Decides.{nat_tests}
 use Rattle.std.proofs.lemmas.List.{drop_more}
-use Rattle.capnp_schema.specs.Discriminant.{discriminant_of}
-use Rattle.capnp_schema.specs.FieldLists.{IsFieldOf, field_schema, typed_of}
-use Rattle.capnp_schema.specs.Schema.{Schemas, TypedField, field_at, fields_of, node_of}
+use Rattle.capnp_schema.specs.Schema.{Schemas, field_at, fields_of}
 use Rattle.capnp_records.specs.Text.{Out, after, said_text}
 use Rattle.capnp_differences.specs.declared.differences.Difference.{Difference}
 use Rattle.capnp_dynamic_readers.specs.Facts.Appended.{both, nothing, two_put}
 use Rattle.capnp_dynamic_readers.specs.Pieces.{IsAppended}
 use Rattle.capnp_structs.proofs.Appended.{IsLeft, ended, led, left_more}
-use Rattle.capnp_structs.proofs.Lines.{next}
 use Rattle.capnp_structs.specs.Sides.{field_side}
-use Rattle.capnp_versions.specs.Lines.{behind_word, difference_line, difference_words, differences_text, field_at_side, side_of, union_side, union_words}
+use Rattle.capnp_versions.specs.Lines.{behind_word, difference_line, differences_text, field_at_side, side_of, union_side, union_words}
 
 -- ---- the union ----
 

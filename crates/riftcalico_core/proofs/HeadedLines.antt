@@ -1,5 +1,5 @@
 -- Lines with their paths, and without; and a path as a word.
-use Rattle.std.proofs.Common.{ℕ, ◌-◌, ◌<◌, ◌≤◌, List, [], ◌∷◌, ◌++◌, Bool, true, false, Bor, MatchOption, Option, Some, None, Result, Ok, Err, IfErr, codes, length, map, string_bytes, ap, append-nil, arith, inl, inr, refl, subst, sym, ◌≡◌, ◌≢◌, ◌∙◌}
+use Rattle.std.proofs.Common.{ℕ, ◌-◌, ◌<◌, ◌≤◌, List, [], ◌∷◌, ◌++◌, Bool, true, false, Result, Ok, Err, IfErr, codes, length, map, string_bytes, ap, append-nil, arith, inl, inr, refl, subst, sym, ◌≡◌, ◌≢◌, ◌∙◌}
 use Rattle.std.specs.List.{join_with_byte}
 use Rattle.capnp_device.specs.declared.error.ErrorKind.TheVariants.{OutOfMemory, TooLarge}
 use Rattle.capnp_records.specs.Call.{PathStep}

@@ -1,5 +1,5 @@
 -- The queries of one query more that is asked, or the first that can't be told; and the paths of one.
-use Rattle.std.proofs.Common.{ℕ, ◌+◌, ◌-◌, ◌<◌, ◌≤◌, List, [], ◌∷◌, ◌++◌, Bool, true, false, Option, Some, None, Ok, drop, get_or, length, map, ap, append_assoc, arith, inl, inr, refl, subst, sym, ◌≡◌, ◌≢◌, ◌∙◌, ◌⊎◌}
+use Rattle.std.proofs.Common.{ℕ, ◌+◌, ◌-◌, ◌<◌, ◌≤◌, List, [], ◌∷◌, ◌++◌, Bool, true, false, Option, Some, None, Ok, get_or, length, map, ap, append_assoc, arith, inl, inr, refl, subst, sym, ◌≡◌, ◌≢◌, ◌∙◌, ◌⊎◌}
 use Rattle.std.proofs.lemmas.List.{append-nil, length-map, map-append}
 use Rattle.std.specs.declared.alloc.Global.{Global}
 use Rattle.std.specs.declared.vec.Vec.{Vec}

@@ -1,5 +1,5 @@
 -- A copy is refused as it was, and for want of memory only where the limit is the cause.
-use Rattle.std.proofs.Common.{◌≡◌, ◌≢◌, ◌⊎◌, inl, inr, Bool, true, false, List, ℕ, true≢false, refl, sym, ap, ◌∙◌, subst}
+use Rattle.std.proofs.Common.{◌≡◌, ◌≢◌, inl, inr, Bool, true, false, List, ℕ, true≢false, refl, sym, ap, ◌∙◌, subst}
 use Rattle.capnp_call.proofs.Behind.{is_memory, memory_is}
 use Rattle.capnp_device.specs.declared.error.ErrorKind.{ErrorKind}
 use Rattle.capnp_device.specs.declared.error.ErrorKind.TheVariants.{OutOfMemory}

@@ -1,5 +1,5 @@
 -- What is told of a value of a set is told of the part that it is seen as.
-use Rattle.std.proofs.Common.{ℕ, List, Bool, Option, Some, None, Ok, ◌≡◌, refl, subst}
+use Rattle.std.proofs.Common.{ℕ, List, Bool, Option, Some, None, Ok, ◌≡◌, subst}
 use Rattle.capnp_dynamic_readers.specs.Seen.{value_seen}
 use Rattle.capnp_dynamic_readers.specs.Shown.{type_seen}
 use Rattle.capnp_dynamic_readers.specs.Typed.{IsOf}

@@ -1,10 +1,8 @@
 -- What is answered where all structs of two versions are compared is the answer of the plan's job.
-use Rattle.std.proofs.Common.{◌≡◌, ◌∙◌, ◌⊎◌, ℕ, List, [], None, Option, Some, Bool, false, Ok, inl, inr, refl, ap, subst, sym, string_bytes}
-use Rattle.std.specs.Option.{option_map}
-use Rattle.capnp_schema.specs.Entries.{lists_seen}
+use Rattle.std.proofs.Common.{◌≡◌, [], Option, inl, inr, refl, string_bytes}
 use Rattle.capnp_schema.specs.Schema.{Schemas}
 use Rattle.riftcalico_core.specs.Answers.{IsAnswer, IsNoAnswer, answer_blamed}
-use Rattle.riftcalico_core.specs.Comparisons.{IsCompareAnswer, IsNotTold, IsReported, IsUncompared, compare_blamed}
+use Rattle.riftcalico_core.specs.Comparisons.{IsCompareAnswer, IsNotTold, IsReported, compare_blamed}
 use Rattle.riftcalico_core.specs.Jobs.{IsCompareJob}
 use Rattle.riftcalico_core.specs.Steps.Whole.{IsUncomparedWhole, IsWholeAnswer, IsWholeReport}
 use Rattle.riftcalico_core.specs.Whole.{OfItsJobs, whole_plan_seen}

@@ -1,6 +1,6 @@
 -- What is answered where values are shown: to each query that is asked for a line, in their order, with its path before its text where that is wanted; or the first that
 -- has no line within what is left of the limit.
-use Rattle.std.specs.Prelude.{ℕ, ◌<◌, ◌≤◌, ◌+◌, ◌-◌, ◌≡◌, ◌⊎◌, List, [], ◌∷◌, ◌++◌, length, map, Bool, true, false, Option, Some, None, Ok, Err, decimal, codes, string_bytes}
+use Rattle.std.specs.Prelude.{ℕ, ◌<◌, ◌≤◌, ◌+◌, ◌-◌, ◌≡◌, ◌⊎◌, List, [], ◌++◌, length, map, Bool, true, false, Option, Some, None, Ok, Err, decimal, codes, string_bytes}
 use Rattle.capnp_device.specs.declared.error.ErrorKind.TheVariants.{TooLarge}
 use Rattle.capnp_patch.specs.Gets.{Part, Reached}
 use Rattle.capnp_queries.specs.Floats.{floats_at}

@@ -5,7 +5,6 @@ use Rattle.capnp_device.specs.declared.error.Error.{Error}
 use Rattle.capnp_device.specs.declared.error.ErrorKind.TheVariants.{NameNotFound, TooLarge}
 use Rattle.capnp_call.specs.Seen.{path_seen}
 use Rattle.capnp_queries.specs.Floats.{floats_at}
-use Rattle.capnp_records.specs.Call.{PathStep}
 use Rattle.capnp_records.specs.Run.{root_type}
 use Rattle.capnp_schema.specs.Accepted.{IsAccepted}
 use Rattle.capnp_schema.specs.Builtin.{builtin}

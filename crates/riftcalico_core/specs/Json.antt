@@ -1,5 +1,5 @@
 -- What is answered where values are shown as JSON: to each query that is asked for a line, in their order; or the first that has none within what is left of the limit.
-use Rattle.std.specs.Prelude.{ℕ, ◌<◌, ◌≤◌, ◌+◌, ◌≡◌, ◌≢◌, ◌⊎◌, ⊤, List, [], ◌++◌, length, map, Bool, true, false, Err, codes, decimal, string_bytes}
+use Rattle.std.specs.Prelude.{ℕ, ◌<◌, ◌≤◌, ◌+◌, ◌≡◌, ◌⊎◌, ⊤, List, [], ◌++◌, length, map, Bool, true, false, Err, codes, decimal, string_bytes}
 use Rattle.capnp_device.specs.declared.error.ErrorKind.TheVariants as kind
 use Rattle.capnp_json.specs.Errors.{json_error_name, json_error_number}
 use Rattle.capnp_json.specs.Pieces.{IsJson, Out}

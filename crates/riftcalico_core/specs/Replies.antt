@@ -11,7 +11,7 @@ use Rattle.capnp_floats.specs.declared.width.Width.{Width}
 use Rattle.capnp_floats.specs.declared.width.Width.TheVariants.{Float32, Float64}
 use Rattle.capnp_patch.specs.Lines.{IsReplyTold, answer_line}
 use Rattle.capnp_queries.specs.Floats.{floats_behind}
-use Rattle.capnp_records.specs.Call.{Call, Clear, ElementAt, FieldNamed, FieldNumber, Get, Has, Init, Initn, Op, PathStep, Set, Which}
+use Rattle.capnp_records.specs.Call.{Call, ElementAt, FieldNamed, FieldNumber, Op, PathStep, Which}
 use Rattle.capnp_records.specs.Run.{root_type}
 use Rattle.capnp_schema.specs.Schema.{Schemas, fields_of, node_of}
 use Rattle.capnp_schema.specs.Types.{SchemaType, StructType}

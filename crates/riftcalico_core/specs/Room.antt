@@ -1,5 +1,5 @@
 -- Room within the limit of bytes that a message may have, and how a refusal for the want of it is told.
-use Rattle.std.specs.Prelude.{ℕ, ◌-◌, ◌≤◌, ◌<◌, ◌≡◌, List, [], length, Bool, true, false, string_bytes}
+use Rattle.std.specs.Prelude.{ℕ, ◌-◌, ◌≤◌, ◌<◌, ◌≡◌, List, [], length, Bool, true, string_bytes}
 use Rattle.capnp_device.specs.declared.error.ErrorKind.{ErrorKind}
 use Rattle.capnp_device.specs.declared.error.ErrorKind.TheVariants.{OutOfMemory, TooLarge}
 use Rattle.capnp_wire.specs.Locate.{words_past_format}

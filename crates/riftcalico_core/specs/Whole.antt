@@ -1,5 +1,5 @@
 -- What is asked where all structs of two versions are compared in one direction.
-use Rattle.std.specs.Prelude.{List, ℕ, Bool, true, false, not, Option, Some, None}
+use Rattle.std.specs.Prelude.{List, ℕ, Bool, false, not, Option, Some, None}
 use Rattle.capnp_schema.specs.Schema.{Schemas}
 use Rattle.riftcalico_core.specs.Jobs.{IsJob}
 use Rattle.riftcalico_core.specs.Plans as plans

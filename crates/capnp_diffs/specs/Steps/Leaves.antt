@@ -1,7 +1,6 @@
 -- Dynamic values without parts, as they are compared.
 use Rattle.std.specs.Prelude.{ℕ, ⊤, ℤ, pos, negsuc, List, Bool, true, false, Option, Some, None}
 use Rattle.std.specs.Borrow.{Bor}
-use Rattle.capnp_wire.specs.Tree.{StructTree, Tree}
 use Rattle.capnp_wire.specs.Standing.{list_of, struct_of}
 use Rattle.capnp_wire.specs.declared.list_reader.ListReader.{ListReader}
 use Rattle.capnp_wire.specs.declared.struct_reader.StructReader.{StructReader}
@@ -13,7 +12,6 @@ use Rattle.capnp_records.specs.Record as value
 use Rattle.capnp_records.specs.Record.{Endless, Value}
 use Rattle.capnp_dynamic_readers.specs.declared.dynamic_value.Reader.{Reader as DynamicValue}
 use Rattle.capnp_dynamic_readers.specs.declared.dynamic_value.Reader.TheVariants as dynamic
-use Rattle.capnp_diffs.specs.Changes.{same_leaf}
 
 -- an integer by whether it is below zero, and its number or how far it is below -1
 abbrev pub integer_at : Bool → ℕ → ℤ

@@ -1,5 +1,5 @@
 -- The root of a new message, before what it holds is read.
-use Rattle.std.specs.Prelude.{ℕ, ◌≡◌}
+use Rattle.std.specs.Prelude.{◌≡◌}
 use Rattle.capnp_wire.specs.Place.{struct_tree}
 use Rattle.capnp_arena.specs.Built.{IsBuilt, built_at}
 use Rattle.capnp_arena.specs.Forest as forest
