@@ -7,6 +7,7 @@ pub mod Falls
 pub mod FieldRows
 pub mod LayersFound
 pub mod Leads
+pub mod Left
 pub mod Made
 pub mod NumbersFound
 pub mod Parts

@@ -1,5 +1,6 @@
 pub mod Changes
 pub mod Found
 pub mod Laws
+pub mod Left
 pub mod Made
 pub mod Steps

@@ -1,5 +1,6 @@
 //! What holds of the changes from one record to another.
 ghost use Rattle.capnp_diffs.specs.Laws.{CallsMakeNew, EqualNeedNone, NoneMeansEqual};
+ghost use Rattle.capnp_diffs.specs.Left.{FoundCallsLeaveNew};
 ghost use Rattle.capnp_diffs.specs.Made.{FoundCallsMakeNew};
 
 /// Calls that make the changes from an old record to a new one, in order, are none refused where there is room, and leave the
@@ -26,4 +27,11 @@ pub fn none_means_equal()
 #[tactic(auto, using(crate::proofs::Made::found_calls_make_new))]
 pub fn found_calls_make_new()
     ensures { FoundCallsMakeNew }
+{}
+
+/// A message with an old record, on which the calls of changes to a new one are made (`run_copied` of `capnp_call`, the calls by
+/// `as_calls`), reads as the new one; where there is room, none of the calls was refused.
+#[tactic(auto, using(crate::proofs::Left::found_calls_leave_new))]
+pub fn found_calls_leave_new()
+    ensures { FoundCallsLeaveNew }
 {}
