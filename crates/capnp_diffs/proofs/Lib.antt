@@ -10,6 +10,8 @@ pub mod Leads
 pub mod Made
 pub mod NumbersFound
 pub mod Parts
+pub mod Refused
+pub mod RefusedFields
 pub mod Roots
 pub mod Rows
 pub mod RowsFound

@@ -2,4 +2,5 @@ pub mod Changes
 pub mod Found
 pub mod Laws
 pub mod Made
+pub mod Refusals
 pub mod Steps
