@@ -109,6 +109,7 @@ pub mod dynamic_value {
 pub mod diffs {
     pub use crate::capnp_diffs::change::{as_calls, Change};
     pub use crate::capnp_diffs::diff::find_changes;
+    pub use crate::one_call::diff_bytes;
 }
 
 /// Lists that are edited, and copies along paths: where they stand in a message, in runs with calls; lists also in messages

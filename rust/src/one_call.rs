@@ -3,6 +3,8 @@
 use crate::capnp_call::calls::{Call, Reply, Step};
 use crate::capnp_call::message::{run_copied, MOST_WORDS};
 use crate::capnp_device::error::{Error, ErrorKind, Result};
+use crate::capnp_diffs::change::Change;
+use crate::capnp_diffs::diff::find_changes;
 use crate::capnp_dynamic::{dynamic_struct, dynamic_value, printer};
 use crate::capnp_edit_calls::acts::Act;
 use crate::capnp_edit_calls::message::run_acts_copied;
@@ -85,6 +87,14 @@ pub fn edit_bytes(bytes: &[u8], schema: StructSchema<'_>, acts: &[Act<'_>]) -> R
     let source = Reader::new(Global, bytes)?.get_root();
     let left = run_acts_copied(Global, MOST_WORDS, source, schema, acts)?;
     Ok((left.replies.into(), left.message.write_message()?.into()))
+}
+
+/// The changes that make the root of the first message in the old bytes into that in the new ones. With the calls of
+/// [`crate::diffs::as_calls`], [`patch_bytes`] makes them.
+///
+/// Refused as [`read_root`] and [`crate::diffs::find_changes`].
+pub fn diff_bytes<'a>(old: &'a [u8], new: &'a [u8], schema: StructSchema<'a>) -> Result<Vec<Change<'a>>> {
+    Ok(find_changes(Global, read_root(old, schema)?, read_root(new, schema)?)?.into())
 }
 
 /// What stands at a path of a value, as `people.1.phones.0.number`; `.` alone is the value itself.

@@ -5,7 +5,7 @@ use riftcalico::introspect::{RawBrandedStructSchema, Type, TypeVariant};
 use riftcalico::memory::{Global, Vec as MemoryVec};
 use riftcalico::schema::record::{BrandRecord, FieldRecord, NodeRecord, ValueRecord};
 use riftcalico::schema::{GroupWalk, SchemaSet};
-use riftcalico::{dynamic_struct, message, printer, Error};
+use riftcalico::{diffs, dynamic_struct, message, printer, Error, ErrorKind};
 use std::fs;
 use std::io::Write;
 use std::path::{Path, PathBuf};
@@ -174,6 +174,25 @@ fn groups_in_one_another_are_copied() {
         assert!(left[..2].iter().all(|byte| *byte == 0));
         assert!(left[2..10_002].iter().all(|byte| *byte == 1));
         assert!(left[10_002..].iter().all(|byte| *byte == 0));
+    });
+}
+
+/// The changes between two structs of so many groups in one another, all of whose numbers are 0 in one and 1 in the other.
+fn changes_of_nested(groups: u32) -> Result<usize, ErrorKind> {
+    let schemas = nested(groups, 64).expect("the set is accepted");
+    let mut bytes = [1_u8; 8 * 66];
+    bytes[..16].copy_from_slice(&[0, 0, 0, 0, 65, 0, 0, 0, 0, 0, 0, 0, 64, 0, 0, 0]);
+    let nothing = [0, 0, 0, 0, 1, 0, 0, 0, 0, 0, 0, 0, 0, 0, 0, 0];
+    let changes = diffs::diff_bytes(&nothing, &bytes, schemas.struct_schema(0));
+    Ok(changes.map_err(|error| error.kind)?.len())
+}
+
+#[test]
+fn changes_are_told_through_64_groups() {
+    in_small_stack(|| {
+        assert_eq!(changes_of_nested(0), Ok(2));
+        assert_eq!(changes_of_nested(64), Ok(130));
+        assert_eq!(changes_of_nested(65), Err(ErrorKind::TooDeep));
     });
 }
 

@@ -1,5 +1,5 @@
 -- Values of one type of the data section are alike.
-use Rattle.std.proofs.Common.{ℕ, ◌+◌, ◌≡◌, true, false, None, Some, arith, ap, sym, ◌∙◌}
+use Rattle.std.proofs.Common.{ℕ, ◌+◌, ◌≡◌, false, None, Some, arith, ap, sym, ◌∙◌}
 use Rattle.std.proofs.lemmas.Bool.{true≢false}
 use Rattle.capnp_schema.specs.Schema.{Schemas}
 use Rattle.capnp_schema.specs.Types.{AnyPointerType, BoolType, DataType, EnumType, IntType, ListType, SchemaType, StructType, TextType, UIntType, VoidType, is_pointer, struct_brand}

@@ -16,7 +16,7 @@ use Rattle.capnp_records.specs.Reading.{non_union_parts}
 use Rattle.capnp_records.specs.Record as value
 use Rattle.capnp_records.specs.Record.{MoreValues, NoValues, Parts, Record, Value, Values}
 use Rattle.capnp_call.specs.declared.calls.Step.{Step}
-use Rattle.capnp_diffs.specs.Changes.{AreElsewhere, AreFieldsTold, ByKind, Change, Either, IsGroupTold, IsTold, field_changes, union_changes, value_changes}
+use Rattle.capnp_diffs.specs.Changes.{AreElsewhere, AreFieldsTold, ByKind, Either, IsGroupTold, IsTold, field_changes, union_changes, value_changes}
 use Rattle.capnp_diffs.specs.Steps.Adding.{Adds, AreFieldsFound, IsPartFound, IsRecordFound, IsUnionFound, fields_held, whole_part, whole_record}
 use Rattle.capnp_diffs.specs.declared.change.Change.{Change as FoundChange}
 use Rattle.capnp_diffs.proofs.Added.{adds_both, adds_none}

@@ -11,6 +11,8 @@ pub mod Left
 pub mod Made
 pub mod NumbersFound
 pub mod Parts
+pub mod Refused
+pub mod RefusedFields
 pub mod Roots
 pub mod Rows
 pub mod RowsFound

@@ -2,15 +2,17 @@
 use Rattle.std.proofs.Common.{ℕ, zero, suc, ◌+◌, ◌<◌, ◌≡◌, refl, [], ◌∷◌, ◌++◌, List, Bool, true, false, not, ap, ap₂, sym, subst, ◌∙◌}
 use Rattle.std.specs.Prelude.{⊤}
 use Rattle.std.proofs.lemmas.Bool.{true≢false}
-use Rattle.capnp_wire.specs.Reading.{list_length}
+use Rattle.capnp_wire.specs.Reading.{element_number, list_length}
 use Rattle.capnp_wire.specs.Standing.{list_levels, list_of}
 use Rattle.capnp_wire.specs.declared.list_reader.ListReader.{ListReader}
+use Rattle.capnp_device.specs.declared.error.ErrorKind.{ErrorKind}
 use Rattle.capnp_base.specs.declared.introspect.«Type».{«Type» as TypeHandle}
 use Rattle.capnp_schema.specs.Schema.{Schemas, VoidValue}
 use Rattle.capnp_schema.specs.Types.{BoolType, EnumType, IntType, SchemaType, UIntType, VoidType, is_pointer, seen_type}
 use Rattle.capnp_records.specs.Default.{read_of}
 use Rattle.capnp_records.specs.Facts.ListValues.{below_of}
 use Rattle.capnp_records.specs.Reading.{element_value}
+use Rattle.capnp_records.specs.Record as value
 use Rattle.capnp_records.specs.Record.{Left, values_from}
 use Rattle.capnp_dynamic_readers.specs.Handles.{list_reader_of, list_set, type_of}
 use Rattle.capnp_dynamic_readers.specs.Reads as reads
@@ -25,6 +27,7 @@ use Rattle.capnp_diffs.specs.Found.{type_held}
 use Rattle.capnp_diffs.specs.Steps.Adding.{elements_in}
 use Rattle.capnp_diffs.specs.Steps.Leaves.{AreAlike}
 use Rattle.capnp_diffs.proofs.Alike.{alike, held_under}
+use Rattle.capnp_diffs.proofs.Slots.{fault_truth, never_number}
 use Rattle.capnp_diffs.proofs.RowsFound.{changes_first, changes_left, element_at, element_changes, no_rest, whole_rest}
 
 either_way : (q : Bool) → OnlyIf q ⊤
@@ -41,6 +44,14 @@ number_read set (UIntType k) l i n bare = refl
 number_read set (EnumType k) l i n bare = refl
 number_read set e l i n bare = absurd (true≢false bare)
 
+no_fault : (set : Schemas) (e : SchemaType) (l : ListReader) (i : ℕ) (k : ErrorKind) → is_pointer e ≡ false → value.Fault k ≡ element_at set e l i → ⊥
+no_fault set VoidType l i k bare is = never_number VoidType 0 k is
+no_fault set BoolType l i k bare is = fault_truth is
+no_fault set (IntType n) l i k bare is = never_number (IntType n) (element_number n (list_of l) i) k is
+no_fault set (UIntType n) l i k bare is = never_number (UIntType n) (element_number n (list_of l) i) k is
+no_fault set (EnumType n) l i k bare is = never_number (EnumType n) (element_number 2 (list_of l) i) k is
+no_fault set e l i k bare is = absurd (true≢false bare)
+
 -- a list's handle that was made of these parts
 pub record IsHandle (h : ListHandle) (set : Schemas) (t : TypeHandle) (l : ListReader) : Type 0 where
   pub at_set : list_set h ≡ set
@@ -48,13 +59,19 @@ pub record IsHandle (h : ListHandle) (set : Schemas) (t : TypeHandle) (l : ListR
   pub at_reader : list_reader_of h ≡ l
 
 module _ (set : Schemas) (t : TypeHandle) (bare : is_pointer (seen_type t) ≡ false) where
-  pub read_is : (h : ListHandle) (l : ListReader) → IsHandle h set t l → (i : ℕ) (v : DynamicValue) → value_seen v ≡ reads.element_seen h i → value_seen v ≡ element_at set (seen_type t) l i
-  read_is h l is i v e =
-      e
-      ∙ (number_read (list_set h) (seen_type (type_of h)) (list_reader_of h) i (list_levels (list_reader_of h)) (ap (λ (x : TypeHandle). is_pointer (seen_type x)) is.at_element ∙ bare)
+  seen_is : (h : ListHandle) (l : ListReader) → IsHandle h set t l → (i : ℕ) → reads.element_seen h i ≡ element_at set (seen_type t) l i
+  seen_is h l is i =
+      number_read (list_set h) (seen_type (type_of h)) (list_reader_of h) i (list_levels (list_reader_of h)) (ap (λ (x : TypeHandle). is_pointer (seen_type x)) is.at_element ∙ bare)
       ∙ (ap (λ (s : Schemas). element_at s (seen_type (type_of h)) (list_reader_of h) i) is.at_set
       ∙ (ap (λ (x : TypeHandle). element_at set (seen_type x) (list_reader_of h) i) is.at_element
-      ∙ ap (λ (r : ListReader). element_at set (seen_type t) r i) is.at_reader)))
+      ∙ ap (λ (r : ListReader). element_at set (seen_type t) r i) is.at_reader))
+
+  pub read_is : (h : ListHandle) (l : ListReader) → IsHandle h set t l → (i : ℕ) (v : DynamicValue) → value_seen v ≡ reads.element_seen h i → value_seen v ≡ element_at set (seen_type t) l i
+  read_is h l is i v e = e ∙ seen_is h l is i
+
+  -- the read of a number is never refused
+  pub never_refused : (h : ListHandle) (l : ListReader) → IsHandle h set t l → (i : ℕ) (k : ErrorKind) → value.Fault k ≡ reads.element_seen h i → ⊥
+  never_refused h l is i k e = no_fault set (seen_type t) l i k bare (e ∙ seen_is h l is i)
 
   held : (h : ListHandle) (l : ListReader) → IsHandle h set t l → (v : DynamicValue) → IsValueUnder (list_set h) (seen_type (type_of h)) v → type_held v ≡ seen_type t
   held h l is v under = held_under (list_set h) (seen_type (type_of h)) v (ap (λ (x : TypeHandle). is_pointer (seen_type x)) is.at_element ∙ bare) under ∙ ap seen_type is.at_element

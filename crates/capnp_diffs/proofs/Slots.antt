@@ -1,8 +1,9 @@
 -- Slots of the data section: what is read there, compared and put.
-use Rattle.std.specs.Prelude.{⊤}
-use Rattle.std.proofs.Common.{ℕ, ◌<◌, ◌+◌, ◌≡◌, ◌∙◌, refl, [], ◌∷◌, List, length, Bool, true, false, not, ◌==◌, Some, None, Result, Ok, Err, IfOk, ap, ap₂, sym, subst}
+use Rattle.std.specs.Prelude.{⊤, IsOk}
+use Rattle.std.proofs.Common.{ℕ, ℤ, ◌<◌, ◌+◌, ◌≡◌, ◌∙◌, refl, [], ◌∷◌, List, length, Bool, true, false, not, ◌==◌, Some, None, Result, Ok, Err, IfOk, ap, ap₂, sym, subst}
 use Rattle.std.proofs.lemmas.Bool.{eq-eqb, true≢false}
 use Rattle.capnp_device.specs.declared.error.Error.{Error}
+use Rattle.capnp_device.specs.declared.error.ErrorKind.{ErrorKind}
 use Rattle.capnp_wire.specs.Standing.{struct_levels, struct_of}
 use Rattle.capnp_wire.specs.declared.struct_reader.StructReader.{StructReader}
 use Rattle.capnp_schema.specs.Accepted.{IsAccepted, IsGroupOf}
@@ -18,6 +19,7 @@ use Rattle.capnp_records.specs.Call.{FieldNumber}
 use Rattle.capnp_records.specs.Default.{read_of}
 use Rattle.capnp_records.specs.Facts.Frame.{second_of}
 use Rattle.capnp_records.specs.Reading.{Reading, kind_value, nth_reading, number_value, record_within, values_of}
+use Rattle.capnp_records.specs.Record as value
 use Rattle.capnp_records.specs.Record.{Endless, Left, Levels, Record, Value}
 use Rattle.capnp_dynamic_readers.specs.Handles.{reader_of, schema_of}
 use Rattle.capnp_dynamic_readers.specs.Reads.{BelongsTo, field_read, field_seen, handed_out}
@@ -115,6 +117,35 @@ answered : (answer : Result DynamicValue Error) (w : Value) → answered_value a
 answered (Ok v) w e = e
 answered (Err x) w e = tt {0}
 
+fault_void : {k : ErrorKind} → value.Fault k ≡ value.Void → ⊥
+fault_void e = cc
+
+pub fault_truth : {k : ErrorKind} {b : Bool} → value.Fault k ≡ value.Truth b → ⊥
+fault_truth e = cc
+
+fault_number : {k : ErrorKind} {x : ℤ} → value.Fault k ≡ value.Number x → ⊥
+fault_number e = cc
+
+fault_enum : {k : ErrorKind} {n : ℕ} → value.Fault k ≡ value.Enum n → ⊥
+fault_enum e = cc
+
+-- a number is no fault
+pub never_number : (t : SchemaType) (n : ℕ) (k : ErrorKind) → value.Fault k ≡ number_value t n → ⊥
+never_number VoidType n k e = fault_void e
+never_number BoolType n k e = fault_truth e
+never_number (IntType bytes) n k e = fault_number e
+never_number (UIntType bytes) n k e = fault_number e
+never_number (EnumType number) n k e = fault_enum e
+never_number TextType n k e = fault_void e
+never_number DataType n k e = fault_void e
+never_number (StructType b g) n k e = fault_void e
+never_number (ListType t) n k e = fault_void e
+never_number AnyPointerType n k e = fault_void e
+
+number_answers : (t : SchemaType) (n : ℕ) (answer : Result DynamicValue Error) → answered_value answer ≡ number_value t n → IsOk answer
+number_answers t n (Ok v) e = refl
+number_answers t n (Err x) e = absurd (never_number t n x.kind e)
+
 module _ (f : Field) (h : StructHandle) (r : StructReader) (s : StructSchema) (is_here : s ≡ field_schema f) (stands : IsStruct s) (here : IsFieldOf s (index_of f) f) (is_schema : schema_of h ≡ s) where
   stands_here : IsStruct (field_schema f)
   stands_here = subst IsStruct is_here stands
@@ -122,13 +153,23 @@ module _ (f : Field) (h : StructHandle) (r : StructReader) (s : StructSchema) (i
   inside_here : index_of f < length (fields_of (set_of (field_schema f)) (number_of (field_schema f)))
   inside_here = subst (λ (z : StructSchema). index_of f < length (fields_of (set_of z) (number_of z))) is_here here.inside
 
+  slot_kind : is_pointer (typed_of f).type ≡ false → IsNoGroup (typed_of f).field.kind
+  slot_kind number = number_slot (set_of (field_schema f)) stands_here.accepted (number_of (field_schema f)) (index_of f) stands_here.number inside_here number
+
+  slot_seen : reader_of h ≡ r → is_pointer (typed_of f).type ≡ false → field_seen h (index_of f) ≡ whole_part (set_of (field_schema f)) r (typed_of f)
+  slot_seen is_reader number =
+      ap₂ (λ (z : StructSchema) (x : StructReader). field_read (set_of z) (Left (struct_levels x)) (struct_of x) (struct_field z (index_of f))) (is_schema ∙ is_here) is_reader
+      ∙ data_seen (set_of (field_schema f)) r (struct_levels r) (typed_of f) number (slot_kind number)
+
   pub slot_read : reader_of h ≡ r → is_pointer (typed_of f).type ≡ false → (answer : Result DynamicValue Error) → answered_value answer ≡ field_seen h (index_of f) →
       IfOk answer (λ v. value_seen v ≡ whole_part (set_of (field_schema f)) r (typed_of f))
-  slot_read is_reader number answer is = answered answer (whole_part (set_of (field_schema f)) r (typed_of f)) (
-      is
-      ∙ (ap₂ (λ (z : StructSchema) (x : StructReader). field_read (set_of z) (Left (struct_levels x)) (struct_of x) (struct_field z (index_of f))) (is_schema ∙ is_here) is_reader
-      ∙ data_seen (set_of (field_schema f)) r (struct_levels r) (typed_of f) number
-      (number_slot (set_of (field_schema f)) stands_here.accepted (number_of (field_schema f)) (index_of f) stands_here.number inside_here number)))
+  slot_read is_reader number answer is = answered answer (whole_part (set_of (field_schema f)) r (typed_of f)) (is ∙ slot_seen is_reader number)
+
+  -- the read of a number is answered
+  pub slot_answers : reader_of h ≡ r → is_pointer (typed_of f).type ≡ false → (answer : Result DynamicValue Error) → answered_value answer ≡ field_seen h (index_of f) → IsOk answer
+  slot_answers is_reader number answer is =
+      let has = part_number (set_of (field_schema f)) r (typed_of f) number (slot_kind number) in
+      number_answers (typed_of f).type has.number answer (is ∙ (slot_seen is_reader number ∙ has.is))
 
   pub slot_typed : (answer : Result DynamicValue Error) → IfOk answer (IsOf (set_of (schema_of h)) (struct_field (schema_of h) (index_of f)).type) →
       IfOk answer (IsOf (set_of (field_schema f)) (typed_of f).type)

@@ -1,5 +1,5 @@
 -- What a type is, by the variant that the walk looks at.
-use Rattle.std.proofs.Common.{ℕ, ◌<◌, ◌≡◌, refl, Bool, true, false, None, Some, length, ap, ap₂, sym, subst, ◌∙◌}
+use Rattle.std.proofs.Common.{ℕ, ◌<◌, ◌≡◌, refl, true, None, Some, length, ap, ap₂, sym, subst, ◌∙◌}
 use Rattle.std.proofs.lemmas.Bool.{true≢false}
 use Rattle.capnp_base.specs.Types.{is_pointer_variant, variant_of}
 use Rattle.capnp_base.specs.declared.introspect.«Type».{«Type» as TypeHandle}

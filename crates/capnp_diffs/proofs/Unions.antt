@@ -127,7 +127,7 @@ pub active_in : (set : Schemas) (r : StructReader) (b j : ℕ) → which_of (who
 unfolding whole_record whole_part
 active_in set r b j e = let a = active_at set (struct_of r) b j e in record { member = a.member; union = a.union }
 
-which_active : (r : Record) (j : ℕ) → is_active (union_held r) j ≡ true → which_of r ≡ Some j
+pub which_active : (r : Record) (j : ℕ) → is_active (union_held r) j ≡ true → which_of r ≡ Some j
 which_active (Parts xs NoUnion) j e = absurd (true≢false (sym e))
 which_active (Parts xs (Active i v)) j e = ap Some (sym (eqb-true j i e))
 which_active (Parts xs (Unknown n)) j e = absurd (true≢false (sym e))
@@ -137,15 +137,15 @@ active_from set r b j e = active_in set r b j (which_active (whole_record set r 
 
 -- ---- what the handles answer ----
 
-whole_which : (s : StructSchema) (r : StructReader) (answer : Option Field) → IsActiveMember s (struct_of r) answer → IsFound s (which_of (whole_record (set_of s) r (number_of s))) answer
+pub whole_which : (s : StructSchema) (r : StructReader) (answer : Option Field) → IsActiveMember s (struct_of r) answer → IsFound s (which_of (whole_record (set_of s) r (number_of s))) answer
 unfolding whole_record
 whole_which s r answer is = is Endless
 
-found_index : (s : StructSchema) (o : Option ℕ) (f : Field) → IsFound s o (Some f) → o ≡ Some (index_of f)
+pub found_index : (s : StructSchema) (o : Option ℕ) (f : Field) → IsFound s o (Some f) → o ≡ Some (index_of f)
 found_index s None f a = absurd a
 found_index s (Some i) f a = ap Some (sym a.index)
 
-found_none : (s : StructSchema) (o : Option ℕ) → IsFound s o None → o ≡ None
+pub found_none : (s : StructSchema) (o : Option ℕ) → IsFound s o None → o ≡ None
 found_none s None a = refl
 found_none s (Some i) a = absurd a
 

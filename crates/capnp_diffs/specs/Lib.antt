@@ -3,4 +3,5 @@ pub mod Found
 pub mod Laws
 pub mod Left
 pub mod Made
+pub mod Refusals
 pub mod Steps

@@ -1,7 +1,7 @@
 //! Lists of one type on both sides.
-ghost use Rattle.std.specs.Prelude.{[], None, Some, ◌≡◌, ◌↔◌, IfOk, OnOk, false, true, IsTrue};
+ghost use Rattle.std.specs.Prelude.{[], None, Some, ◌≡◌, ◌↔◌, IfErr, IfOk, IsOk, OnOk, false, true, IsTrue};
 ghost use Rattle.capnp_wire.specs.Reading.{list_length};
-ghost use Rattle.capnp_wire.specs.Standing.{list_of, tree_of};
+ghost use Rattle.capnp_wire.specs.Standing.{list_levels, list_of, tree_of};
 ghost use Rattle.capnp_schema.specs.Accepted.{NamesEntries};
 ghost use Rattle.capnp_schema.specs.Entries.{lists_seen};
 ghost use Rattle.capnp_schema.specs.StructHandles.{IsStruct, set_of};
@@ -11,7 +11,9 @@ ghost use Rattle.capnp_records.specs.Record.{Endless};
 ghost use Rattle.capnp_dynamic_readers.specs.Typed.{struct_type};
 ghost use Rattle.capnp_diffs.specs.Changes.{row_changes};
 ghost use Rattle.capnp_diffs.specs.Steps.Adding.{IsFoundAt, IsRowFound, elements_in};
+ghost use Rattle.capnp_diffs.specs.Refusals.{Lists};
 ghost use Rattle.capnp_diffs.specs.Steps.Leaves.{list_value};
+ghost use Rattle.capnp_diffs.specs.Steps.Refusing.{IsRefusedAt};
 
 use crate::change::Change;
 use crate::leaves::is_same_leaf;
@@ -39,6 +41,7 @@ fn are_same_numbers<'a>(
     requires length { list_length (list_of old) ≡ list_length (list_of new) }
     ensures same { IfOk result (λ q. IsTrue q ↔ (row_changes (lists_seen schemas.now) (seen_type element) 0
         (elements_in (lists_seen schemas.now) old.entry (seen_type element)) (elements_in (lists_seen schemas.now) new.entry (seen_type element)) ≡ [])) }
+    ensures answers { IsOk result }
 {
     let source = dynamic_list::Reader::new(old, element, schemas);
     let target = dynamic_list::Reader::new(new, element, schemas);
@@ -57,6 +60,7 @@ fn find_in_structs<'a>(
     schema: StructSchema<'a>,
     old: ListReader<'a>,
     new: ListReader<'a>,
+    groups: u32,
     path: &mut Vec<Step<'a>>,
     out: &mut Vec<Change<'a>>,
 ) -> Result<()>
@@ -65,12 +69,13 @@ fn find_in_structs<'a>(
     ensures path { OnOk result (path.new.items ≡ path.old.items) }
     ensures found { OnOk result (IsRowFound (set_of schema.entry) (struct_type schema.entry) 0 (elements_in (set_of schema.entry) old.entry (struct_type schema.entry)) (elements_in (set_of schema.entry) new.entry (struct_type schema.entry))
         path.old.items out.old.items out.new.items) }
+    ensures refused { IfErr result (λ e. IsRefusedAt (set_of schema.entry) groups (Lists (struct_type schema.entry) (list_of old.entry) (list_levels old.entry) (list_of new.entry) (list_levels new.entry)) e.kind) }
 {
     for index in 0..new.len() {
         let source = old.get_struct_element(index)?;
         let target = new.get_struct_element(index)?;
         path.push(Step::Element(index))?;
-        let found = find_in_record(alloc, schema, source, target, path, out);
+        let found = find_in_record(alloc, schema, source, target, groups, path, out);
         path.pop();
         if let Err(error) = found {
             return Err(error);
@@ -87,6 +92,7 @@ fn find_in_pointers<'a>(
     element: Type,
     old: ListReader<'a>,
     new: ListReader<'a>,
+    groups: u32,
     path: &mut Vec<Step<'a>>,
     out: &mut Vec<Change<'a>>,
 ) -> Result<()>
@@ -97,12 +103,15 @@ fn find_in_pointers<'a>(
     ensures path { OnOk result (path.new.items ≡ path.old.items) }
     ensures found { OnOk result (IsRowFound (lists_seen schemas.now) (seen_type element) 0 (elements_in (lists_seen schemas.now) old.entry (seen_type element)) (elements_in (lists_seen schemas.now) new.entry (seen_type element))
         path.old.items out.old.items out.new.items) }
+    ensures refused { IfErr result (λ e. IsRefusedAt (lists_seen schemas.now) groups (Lists (seen_type element) (list_of old.entry) (list_levels old.entry) (list_of new.entry) (list_levels new.entry)) e.kind) }
 {
     for index in 0..new.len() {
         let source = element_there(&old, index)?;
         let target = element_there(&new, index)?;
         let step = Step::Element(index);
-        if let Err(error) = find_behind(alloc, schemas, element, step, source, target, path, out) {
+        if let Err(error) = find_behind(
+            alloc, schemas, element, step, source, target, groups, path, out,
+        ) {
             return Err(error);
         }
     }
@@ -120,6 +129,7 @@ pub(crate) fn find_in_lists<'a>(
     old: ListReader<'a>,
     new: ListReader<'a>,
     pointer: &PointerReader<'a>,
+    groups: u32,
     path: &mut Vec<Step<'a>>,
     out: &mut Vec<Change<'a>>,
 ) -> Result<()>
@@ -131,6 +141,7 @@ pub(crate) fn find_in_lists<'a>(
     ensures found { OnOk result (IsFoundAt (lists_seen schemas.now) step.entry (ListType (seen_type element))
         (list_value (lists_seen schemas.now) (seen_type element) (Some old.entry)) (list_value (lists_seen schemas.now) (seen_type element) (Some new.entry))
         path.old.items out.old.items out.new.items) }
+    ensures refused { IfErr result (λ e. IsRefusedAt (lists_seen schemas.now) groups (Lists (seen_type element) (list_of old.entry) (list_levels old.entry) (list_of new.entry) (list_levels new.entry)) e.kind) }
 {
     if old.len() != new.len() {
         return put_list(
@@ -147,7 +158,7 @@ pub(crate) fn find_in_lists<'a>(
     if let TypeVariant::Struct(raw) = element.which() {
         path.push(step)?;
         let schema = schemas.struct_schema(raw.number);
-        let found = find_in_structs(alloc, schema, old, new, path, out);
+        let found = find_in_structs(alloc, schema, old, new, groups, path, out);
         path.pop();
         return found;
     }
@@ -167,7 +178,16 @@ pub(crate) fn find_in_lists<'a>(
         );
     }
     let mut differing = Vec::new(alloc);
-    if let Err(error) = find_in_pointers(alloc, schemas, element, old, new, path, &mut differing) {
+    if let Err(error) = find_in_pointers(
+        alloc,
+        schemas,
+        element,
+        old,
+        new,
+        groups,
+        path,
+        &mut differing,
+    ) {
         return Err(error);
     }
     if differing.len() == 0 {

@@ -1,6 +1,6 @@
 //! What stands behind two pointers of one type.
-ghost use Rattle.std.specs.Prelude.{[], ◌∷◌, ◌≡◌, OnOk, true};
-ghost use Rattle.capnp_wire.specs.Standing.{tree_of};
+ghost use Rattle.std.specs.Prelude.{[], ◌∷◌, ◌≡◌, IfErr, OnOk, true};
+ghost use Rattle.capnp_wire.specs.Standing.{levels_of, tree_of};
 ghost use Rattle.capnp_schema.specs.Accepted.{NamesEntries};
 ghost use Rattle.capnp_schema.specs.Entries.{lists_seen};
 ghost use Rattle.capnp_schema.specs.StructHandles.{IsStruct, set_of};
@@ -10,7 +10,9 @@ ghost use Rattle.capnp_records.specs.Record.{Endless};
 ghost use Rattle.capnp_dynamic_readers.specs.Typed.{struct_type};
 ghost use Rattle.capnp_call.specs.Seen.{step_seen};
 ghost use Rattle.capnp_diffs.specs.Changes.{CanStand, whole_change};
+ghost use Rattle.capnp_diffs.specs.Refusals.{NewPointer, Pointers};
 ghost use Rattle.capnp_diffs.specs.Steps.Adding.{Adds, IsFoundAt};
+ghost use Rattle.capnp_diffs.specs.Steps.Refusing.{IsRefusedAt, IsRefusedWhere};
 
 use crate::change::Change;
 use crate::lists::find_in_lists;
@@ -45,6 +47,7 @@ pub(crate) fn put_pointer<'a>(
         (value_of (lists_seen schemas.now) (tree_of new.entry) Endless (seen_type pointed)) ∷ [])) }
     ensures stands { OnOk result (CanStand (seen_type pointed)
         (value_of (lists_seen schemas.now) (tree_of new.entry) Endless (seen_type pointed))) }
+    ensures refused { IfErr result (λ e. IsRefusedWhere (NewPointer (seen_type pointed) (tree_of new.entry) (levels_of new.entry)) e.kind) }
 {
     if new.is_null() {
         return put_clear(alloc, step, path, out);
@@ -79,6 +82,7 @@ fn find_in_struct<'a>(
     step: Step<'a>,
     old: PointerReader<'a>,
     new: PointerReader<'a>,
+    groups: u32,
     path: &mut Vec<Step<'a>>,
     out: &mut Vec<Change<'a>>,
 ) -> Result<()>
@@ -87,6 +91,7 @@ fn find_in_struct<'a>(
     ensures found { OnOk result (IsFoundAt (set_of schema.entry) step.entry (struct_type schema.entry)
         (value_of (set_of schema.entry) (tree_of old.entry) Endless (struct_type schema.entry))
         (value_of (set_of schema.entry) (tree_of new.entry) Endless (struct_type schema.entry)) path.old.items out.old.items out.new.items) }
+    ensures refused { IfErr result (λ e. IsRefusedAt (set_of schema.entry) groups (Pointers (struct_type schema.entry) (tree_of old.entry) (levels_of old.entry) (tree_of new.entry) (levels_of new.entry)) e.kind) }
 {
     let source = struct_there(&old)?;
     let Some(target) = struct_there(&new)? else {
@@ -99,7 +104,7 @@ fn find_in_struct<'a>(
         return put_struct(alloc, schema, step, target, path.as_slice(), out);
     };
     path.push(step)?;
-    let found = find_in_record(alloc, schema, source, target, path, out);
+    let found = find_in_record(alloc, schema, source, target, groups, path, out);
     path.pop();
     found
 }
@@ -113,6 +118,7 @@ fn find_in_list<'a>(
     step: Step<'a>,
     old: PointerReader<'a>,
     new: PointerReader<'a>,
+    groups: u32,
     path: &mut Vec<Step<'a>>,
     out: &mut Vec<Change<'a>>,
 ) -> Result<()>
@@ -121,6 +127,7 @@ fn find_in_list<'a>(
     ensures found { OnOk result (IsFoundAt (lists_seen schemas.now) step.entry (ListType (seen_type element))
         (value_of (lists_seen schemas.now) (tree_of old.entry) Endless (ListType (seen_type element)))
         (value_of (lists_seen schemas.now) (tree_of new.entry) Endless (ListType (seen_type element))) path.old.items out.old.items out.new.items) }
+    ensures refused { IfErr result (λ e. IsRefusedAt (lists_seen schemas.now) groups (Pointers (ListType (seen_type element)) (tree_of old.entry) (levels_of old.entry) (tree_of new.entry) (levels_of new.entry)) e.kind) }
 {
     let size = element.expected_element_size();
     let source = list_there(&old, size)?;
@@ -143,7 +150,7 @@ fn find_in_list<'a>(
         );
     };
     find_in_lists(
-        alloc, schemas, element, step, source, target, &new, path, out,
+        alloc, schemas, element, step, source, target, &new, groups, path, out,
     )
 }
 
@@ -156,6 +163,7 @@ pub(crate) fn find_behind<'a>(
     step: Step<'a>,
     old: PointerReader<'a>,
     new: PointerReader<'a>,
+    groups: u32,
     path: &mut Vec<Step<'a>>,
     out: &mut Vec<Change<'a>>,
 ) -> Result<()>
@@ -165,6 +173,7 @@ pub(crate) fn find_behind<'a>(
     ensures found { OnOk result (IsFoundAt (lists_seen schemas.now) step.entry (seen_type pointed)
         (value_of (lists_seen schemas.now) (tree_of old.entry) Endless (seen_type pointed))
         (value_of (lists_seen schemas.now) (tree_of new.entry) Endless (seen_type pointed)) path.old.items out.old.items out.new.items) }
+    ensures refused { IfErr result (λ e. IsRefusedAt (lists_seen schemas.now) groups (Pointers (seen_type pointed) (tree_of old.entry) (levels_of old.entry) (tree_of new.entry) (levels_of new.entry)) e.kind) }
 {
     match pointed.which() {
         TypeVariant::Text => find_in_text(alloc, step, &old, &new, path.as_slice(), out),
@@ -175,11 +184,12 @@ pub(crate) fn find_behind<'a>(
             step,
             old,
             new,
+            groups,
             path,
             out,
         ),
         TypeVariant::List(element) => {
-            find_in_list(alloc, schemas, element, step, old, new, path, out)
+            find_in_list(alloc, schemas, element, step, old, new, groups, path, out)
         }
         _ => find_in_untyped(alloc, step, &old, &new, path.as_slice(), out),
     }

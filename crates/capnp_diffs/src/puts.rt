@@ -1,6 +1,8 @@
 //! What is put whole, and what of pointers is compared whole.
-ghost use Rattle.std.specs.Prelude.{[], ◌∷◌, ◌≡◌, OnOk, Some};
-ghost use Rattle.capnp_wire.specs.Standing.{list_of, struct_of, tree_of};
+ghost use Rattle.std.specs.Prelude.{[], ◌∷◌, ◌≡◌, IfErr, OnOk, Some};
+ghost use Rattle.capnp_device.specs.declared.error.ErrorKind.TheVariants.{OutOfMemory};
+ghost use Rattle.capnp_wire.specs.Place.{struct_tree};
+ghost use Rattle.capnp_wire.specs.Standing.{levels_of, list_of, struct_of, tree_of};
 ghost use Rattle.capnp_schema.specs.Entries.{lists_seen};
 ghost use Rattle.capnp_schema.specs.Schema.{Schemas};
 ghost use Rattle.capnp_schema.specs.StructHandles.{number_of, set_of};
@@ -9,8 +11,10 @@ ghost use Rattle.capnp_records.specs.Reading.{reads, value_of};
 ghost use Rattle.capnp_records.specs.Record.{Endless, Struct};
 ghost use Rattle.capnp_dynamic_readers.specs.Typed.{struct_type};
 ghost use Rattle.capnp_diffs.specs.Changes.{Clears, whole_change};
+ghost use Rattle.capnp_diffs.specs.Refusals.{Pointers};
 ghost use Rattle.capnp_diffs.specs.Steps.Adding.{Adds, IsFoundAt, one_change};
 ghost use Rattle.capnp_diffs.specs.Steps.Leaves.{data_value, list_value, text_value};
+ghost use Rattle.capnp_diffs.specs.Steps.Refusing.{IsPutRefusal, IsRefusedWhere};
 ghost use Rattle.capnp_call.specs.Seen.{step_seen};
 
 use crate::change::{Change, put_change};
@@ -34,7 +38,8 @@ pub(crate) fn put_clear<'a>(
     path: &[Step<'a>],
     out: &mut Vec<Change<'a>>,
 ) -> Result<()>
-    ensures { OnOk result ((set : Schemas) → Adds set path.now out.old.items out.new.items (one_change step.entry Clears)) }
+    ensures added { OnOk result ((set : Schemas) → Adds set path.now out.old.items out.new.items (one_change step.entry Clears)) }
+    ensures cause { IfErr result (λ e. e.kind ≡ OutOfMemory) }
 {
     put_change(alloc, path, step, Op::Clear, out)
 }
@@ -47,8 +52,9 @@ pub(crate) fn put_text<'a>(
     path: &[Step<'a>],
     out: &mut Vec<Change<'a>>,
 ) -> Result<()>
-    ensures { OnOk result ((set : Schemas) → Adds set path.now out.old.items out.new.items
+    ensures added { OnOk result ((set : Schemas) → Adds set path.now out.old.items out.new.items
         (whole_change (step_seen step.entry) TextType (text_value new.entry) ∷ [])) }
+    ensures cause { IfErr result (λ e. e.kind ≡ OutOfMemory) }
 {
     match new {
         Some(bytes) => put_change(
@@ -70,8 +76,9 @@ pub(crate) fn put_data<'a>(
     path: &[Step<'a>],
     out: &mut Vec<Change<'a>>,
 ) -> Result<()>
-    ensures { OnOk result ((set : Schemas) → Adds set path.now out.old.items out.new.items
+    ensures added { OnOk result ((set : Schemas) → Adds set path.now out.old.items out.new.items
         (whole_change (step_seen step.entry) DataType (data_value new.entry) ∷ [])) }
+    ensures cause { IfErr result (λ e. e.kind ≡ OutOfMemory) }
 {
     match new {
         Some(bytes) => put_change(alloc, path, step, Op::Set(Value::Data(bytes)), out),
@@ -88,9 +95,10 @@ pub(crate) fn put_struct<'a>(
     path: &[Step<'a>],
     out: &mut Vec<Change<'a>>,
 ) -> Result<()>
-    ensures { OnOk result (Adds (set_of schema.entry) path.now out.old.items out.new.items
+    ensures added { OnOk result (Adds (set_of schema.entry) path.now out.old.items out.new.items
         (whole_change (step_seen step.entry) (struct_type schema.entry)
         (Struct (reads (set_of schema.entry) (struct_of new.entry) (number_of schema.entry))) ∷ [])) }
+    ensures refused { IfErr result (λ e. IsPutRefusal (struct_tree (struct_of new.entry)) e.kind) }
 {
     new.total_size()?;
     let value = Value::Struct(dynamic_struct::Reader::new(new, schema));
@@ -111,9 +119,10 @@ pub(crate) fn put_list<'a>(
     requires same { list_of list ≡ tree_of new.now }
     requires value { value_of (lists_seen schemas.now) (tree_of new.now) Endless (ListType (seen_type element))
         ≡ list_value (lists_seen schemas.now) (seen_type element) (Some list) }
-    ensures { OnOk result (Adds (lists_seen schemas.now) path.now out.old.items out.new.items
+    ensures added { OnOk result (Adds (lists_seen schemas.now) path.now out.old.items out.new.items
         (whole_change (step_seen step.entry) (ListType (seen_type element))
         (list_value (lists_seen schemas.now) (seen_type element) (Some list.entry)) ∷ [])) }
+    ensures refused { IfErr result (λ e. IsPutRefusal (tree_of new.now) e.kind) }
 {
     new.total_size()?;
     let value = Value::List(dynamic_list::Reader::new(list, element, schemas));
@@ -129,9 +138,10 @@ pub(crate) fn find_in_text<'a>(
     path: &[Step<'a>],
     out: &mut Vec<Change<'a>>,
 ) -> Result<()>
-    ensures { OnOk result ((set : Schemas) → IsFoundAt set step.entry TextType
+    ensures found { OnOk result ((set : Schemas) → IsFoundAt set step.entry TextType
         (value_of set (tree_of old.now) Endless TextType) (value_of set (tree_of new.now) Endless TextType)
         path.now out.old.items out.new.items) }
+    ensures refused { IfErr result (λ e. IsRefusedWhere (Pointers TextType (tree_of old.now) (levels_of old.now) (tree_of new.now) (levels_of new.now)) e.kind) }
 {
     let source = text_there(old)?;
     let target = text_there(new)?;
@@ -150,9 +160,10 @@ pub(crate) fn find_in_data<'a>(
     path: &[Step<'a>],
     out: &mut Vec<Change<'a>>,
 ) -> Result<()>
-    ensures { OnOk result ((set : Schemas) → IsFoundAt set step.entry DataType
+    ensures found { OnOk result ((set : Schemas) → IsFoundAt set step.entry DataType
         (value_of set (tree_of old.now) Endless DataType) (value_of set (tree_of new.now) Endless DataType)
         path.now out.old.items out.new.items) }
+    ensures refused { IfErr result (λ e. IsRefusedWhere (Pointers DataType (tree_of old.now) (levels_of old.now) (tree_of new.now) (levels_of new.now)) e.kind) }
 {
     let source = data_there(old)?;
     let target = data_there(new)?;
@@ -172,9 +183,10 @@ pub(crate) fn find_in_untyped<'a>(
     path: &[Step<'a>],
     out: &mut Vec<Change<'a>>,
 ) -> Result<()>
-    ensures { OnOk result ((set : Schemas) → IsFoundAt set step.entry AnyPointerType
+    ensures found { OnOk result ((set : Schemas) → IsFoundAt set step.entry AnyPointerType
         (value_of set (tree_of old.now) Endless AnyPointerType) (value_of set (tree_of new.now) Endless AnyPointerType)
         path.now out.old.items out.new.items) }
+    ensures refused { IfErr result (λ e. IsRefusedWhere (Pointers AnyPointerType (tree_of old.now) (levels_of old.now) (tree_of new.now) (levels_of new.now)) e.kind) }
 {
     if old.has_same_tree(new) {
         return Ok(());

@@ -1,5 +1,5 @@
 -- A call is on fewer levels, or into a lower group, or comes later in the walk of the same part.
-use Rattle.std.proofs.Common.{ℕ, ◌+◌, ◌≡◌}
+use Rattle.std.proofs.Common.{◌+◌, ◌≡◌}
 use Rattle.capnp_wire.specs.Standing.{levels_of, list_levels, struct_levels}
 use Rattle.capnp_schema.specs.Entries.{lists_seen}
 use Rattle.capnp_schema.specs.Laws.{group_height}
