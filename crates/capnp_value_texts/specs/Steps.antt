@@ -1,0 +1,3 @@
+-- Steps of the code: no contract of a public function stands on them.
+pub mod Adding
+pub mod Targets
