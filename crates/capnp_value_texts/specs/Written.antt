@@ -1,7 +1,7 @@
 -- What a text says, without types: leaves, and brackets with parts. Each has its place, that of its first byte.
 use Rattle.std.specs.Prelude.{ℕ, zero, suc, ◌-◌, List, [], ◌∷◌, Bool, true, false, cond, ◌==◌, length, drop, take, Option, Some, None, Ok}
 use Rattle.capnp_json_text.specs.Readings.{after_blanks}
-use Rattle.capnp_value_texts.specs.Errors.{Read, read_as, read_then, refused}
+use Rattle.capnp_value_texts.specs.Errors.{Read, cannot_stand, read_as, read_then, refused}
 use Rattle.capnp_value_texts.specs.Lengths.{leaf_length, name_length}
 use Rattle.capnp_value_texts.specs.declared.error.RefusalKind.TheVariants.{CannotStand, TooDeep}
 use Rattle.capnp_value_texts.specs.declared.lengths.Within.TheVariants.{Plain}
@@ -32,8 +32,8 @@ leaf_of place count bs = cond (count == 0) (refused CannotStand place) (Ok (Leaf
 
 -- What is printed of an untyped pointer, or of a text that is no UTF-8, begins with `<`, and is no leaf.
 abbrev pub leaf_at : (whole : ℕ) → Parse Written
-leaf_at whole [] = refused CannotStand whole
-leaf_at whole (b ∷ bs) = cond (b == 60) (refused CannotStand (whole - length (b ∷ bs))) (leaf_of (whole - length (b ∷ bs)) (leaf_length Plain (b ∷ bs)) (b ∷ bs))
+leaf_at whole [] = cannot_stand whole []
+leaf_at whole (b ∷ bs) = cond (b == 60) (cannot_stand whole (b ∷ bs)) (leaf_of (whole - length (b ∷ bs)) (leaf_length Plain (b ∷ bs)) (b ∷ bs))
 
 -- ---- names ----
 
@@ -43,12 +43,12 @@ Name = ℕ × List ℕ
 
 -- behind the equals sign, with blanks around it
 abbrev pub after_equals : (whole : ℕ) → List ℕ → Read (List ℕ)
-after_equals whole [] = refused CannotStand whole
-after_equals whole (b ∷ bs) = cond (b == 61) (Ok (after_blanks bs)) (refused CannotStand (whole - length (b ∷ bs)))
+after_equals whole [] = cannot_stand whole []
+after_equals whole (b ∷ bs) = cond (b == 61) (Ok (after_blanks bs)) (cannot_stand whole (b ∷ bs))
 
 abbrev pub name_of : (whole count : ℕ) → Parse Name
 name_of whole count bs =
-    cond (count == 0) (refused CannotStand (whole - length bs)) (read_as (λ rest. ((whole - length bs, take count bs), rest)) (after_equals whole (after_blanks (drop count bs))))
+    cond (count == 0) (cannot_stand whole bs) (read_as (λ rest. ((whole - length bs, take count bs), rest)) (after_equals whole (after_blanks (drop count bs))))
 
 abbrev pub name_at : Bracket → (whole : ℕ) → Parse Name
 name_at Round whole bs = name_of whole (name_length bs) bs
@@ -65,8 +65,8 @@ closing Square = 93
 
 -- from behind a part and blanks on: whether another follows, and behind the comma or the closing bracket
 abbrev pub behind_part : Bracket → (whole : ℕ) → Parse Bool
-behind_part bracket whole [] = refused CannotStand whole
-behind_part bracket whole (b ∷ bs) = cond (b == closing bracket) (Ok (false, bs)) (cond (b == 44) (Ok (true, after_blanks bs)) (refused CannotStand (whole - length (b ∷ bs))))
+behind_part bracket whole [] = cannot_stand whole []
+behind_part bracket whole (b ∷ bs) = cond (b == closing bracket) (Ok (false, bs)) (cond (b == 44) (Ok (true, after_blanks bs)) (cannot_stand whole (b ∷ bs)))
 
 -- a part, and whether another follows
 abbrev pub OnePart : Type 0
@@ -85,15 +85,15 @@ abbrev pub parts_step : Parse Parts → OnePart × List ℕ → Read (Parts × L
 parts_step more ((p, true), rest) = read_as (with_part p) (more rest)
 parts_step more ((p, false), rest) = Ok (with_part p (NoPart, rest))
 
--- Parts up to the closing bracket, so many at the most. Each takes a byte, so there are no more than bytes.
+-- Parts up to the closing bracket, so many at the most. Each takes a byte, so one more than bytes is enough.
 unfoldable pub parts : Parse OnePart → ℕ → Parse Parts
 parts one zero bs = refused CannotStand 0
 parts one (suc n) bs = read_then (one bs) (parts_step (parts one n))
 
 -- what brackets hold, from behind the opening one and blanks on
 abbrev pub held_at : Parse Written → Bracket → (whole : ℕ) → Parse Parts
-held_at value bracket whole [] = refused CannotStand whole
-held_at value bracket whole (b ∷ bs) = cond (b == closing bracket) (Ok (NoPart, bs)) (parts (part_at value bracket whole) (length (b ∷ bs)) (b ∷ bs))
+held_at value bracket whole [] = cannot_stand whole []
+held_at value bracket whole (b ∷ bs) = cond (b == closing bracket) (Ok (NoPart, bs)) (parts (part_at value bracket whole) (suc (length (b ∷ bs))) (b ∷ bs))
 
 -- ---- values ----
 
@@ -116,7 +116,7 @@ written_by held whole b bs None = leaf_at whole (b ∷ bs)
 written_by held whole b bs (Some bracket) = read_as (bracketed bracket (whole - length (b ∷ bs))) (held bracket (whole - length (b ∷ bs)) bs)
 
 abbrev pub written_with : Held → (whole : ℕ) → Parse Written
-written_with held whole [] = refused CannotStand whole
+written_with held whole [] = cannot_stand whole []
 written_with held whole (b ∷ bs) = written_by held whole b bs (bracket_of b)
 
 -- one with which bytes begin, the last ones of so many, with so many brackets within one another at the most
@@ -129,7 +129,7 @@ most_levels = 64
 
 abbrev pub at_end : (whole : ℕ) → Written → List ℕ → Read Written
 at_end whole v [] = Ok v
-at_end whole v (b ∷ bs) = refused CannotStand (whole - length (b ∷ bs))
+at_end whole v (b ∷ bs) = cannot_stand whole (b ∷ bs)
 
 -- a text: one, with blanks around it
 abbrev pub written : List ℕ → Read Written

@@ -1,5 +1,6 @@
 //! What stands between the values of a text: names, commas and brackets.
-ghost use Rattle.std.specs.Prelude.{[], ◌≡◌, ◌<◌, ◌≤◌, length, IfErr, IfOk, Ok};
+ghost use Rattle.std.specs.Prelude.{◌≡◌, ◌<◌, ◌≤◌, length, IfErr, IfOk, Ok};
+ghost use Rattle.capnp_json_text.specs.Readings.{after_blanks};
 ghost use Rattle.capnp_value_texts.specs.Errors.{IsErrorOf};
 ghost use Rattle.capnp_value_texts.specs.Seen.{name_read, rest_read};
 ghost use Rattle.capnp_value_texts.specs.Written.{after_equals, behind_part, bracket_of, closing, name_at, name_of};
@@ -45,6 +46,15 @@ pub(crate) fn closing(bracket: Bracket) -> u8
     }
 }
 
+/// The bytes behind blanks, if there are any.
+#[tactic(auto, using(crate::proofs::Shorter::blanks_shorter))]
+pub(crate) fn behind_blanks(bytes: &[u8]) -> &[u8]
+    ensures is { result.now ≡ after_blanks bytes.now }
+    ensures shorter { length result.now ≤ length bytes.now }
+{
+    skip_blanks(bytes)
+}
+
 /// The bytes behind an equals sign, which has to stand first, and blanks.
 fn behind_equals(whole: usize, bytes: &[u8]) -> Result<&[u8], Error>
     ensures read { IfOk result (λ rest. after_equals whole bytes.now ≡ Ok rest.now) }
@@ -55,7 +65,7 @@ fn behind_equals(whole: usize, bytes: &[u8]) -> Result<&[u8], Error>
         return Err(cannot_stand(whole, bytes));
     };
     if *first == b'=' {
-        Ok(skip_blanks(behind))
+        Ok(behind_blanks(behind))
     } else {
         Err(cannot_stand(whole, bytes))
     }
@@ -76,7 +86,7 @@ fn read_field_name(whole: usize, count: usize, bytes: &[u8]) -> Result<(Name<'_>
         place,
         bytes: &bytes[..count],
     };
-    match behind_equals(whole, skip_blanks(&bytes[count..])) {
+    match behind_equals(whole, behind_blanks(&bytes[count..])) {
         Ok(rest) => Ok((name, rest)),
         Err(error) => Err(error),
     }
@@ -123,7 +133,7 @@ pub(crate) fn behind_part(
         return Ok((false, behind));
     }
     if *first == b',' {
-        return Ok((true, skip_blanks(behind)));
+        return Ok((true, behind_blanks(behind)));
     }
     Err(cannot_stand(whole, bytes))
 }

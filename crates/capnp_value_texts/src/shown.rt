@@ -1,13 +1,12 @@
 //! What a text says, without types: leaves, and brackets with parts.
-ghost use Rattle.std.specs.Prelude.{◌≡◌, ◌<◌, length, IfErr, IfOk, Ok};
+ghost use Rattle.std.specs.Prelude.{suc, ◌≡◌, ◌<◌, length, IfErr, IfOk, Ok};
 ghost use Rattle.capnp_value_texts.specs.Errors.{IsErrorOf};
 ghost use Rattle.capnp_value_texts.specs.Seen.{part_read, parts_read, shown_view, written_read};
 ghost use Rattle.capnp_value_texts.specs.Written.{at_end, held_at, part_at, parts, written, written_within};
 
 use crate::error::{Error, RefusalKind, cannot_stand, place_of, refused};
 use crate::leaf::read_leaf;
-use crate::parts::{Bracket, Name, behind_part, bracket_of, closing, read_name};
-use capnp_json_text::rest::skip_blanks;
+use crate::parts::{Bracket, Name, behind_blanks, behind_part, bracket_of, closing, read_name};
 use std::alloc::Global;
 
 /// What a text says. Each has the place of its first byte.
@@ -60,7 +59,7 @@ fn read_within<'t>(
     if levels == 0 {
         return Err(refused(RefusalKind::TooDeep, place));
     }
-    match read_held(alloc, levels - 1, bracket, whole, skip_blanks(behind)) {
+    match read_held(alloc, levels - 1, bracket, whole, behind_blanks(behind)) {
         Ok(held) => Ok((bracketed(bracket, place, held.0), held.1)),
         Err(error) => Err(error),
     }
@@ -97,10 +96,10 @@ fn read_parts<'t>(
     whole: usize,
     bytes: &'t [u8],
 ) -> Result<(Vec<(Name<'t>, Shown<'t>)>, &'t [u8]), Error>
-    ensures read { IfOk result (λ r. parts (part_at (written_within levels whole) bracket whole) (length bytes.now) bytes.now
+    ensures read { IfOk result (λ r. parts (part_at (written_within levels whole) bracket whole) (suc (length bytes.now)) bytes.now
         ≡ Ok (parts_read r)) }
     ensures shorter { IfOk result (λ r. length r.1.now < length bytes.now) }
-    ensures refused { IfErr result (IsErrorOf (parts (part_at (written_within levels whole) bracket whole) (length bytes.now)
+    ensures refused { IfErr result (IsErrorOf (parts (part_at (written_within levels whole) bracket whole) (suc (length bytes.now))
         bytes.now)) }
 {
     let mut parts = Vec::new(alloc);
@@ -141,7 +140,7 @@ fn read_part<'t>(
         Ok(value) => value,
         Err(error) => return Err(error),
     };
-    match behind_part(bracket, whole, skip_blanks(value.1)) {
+    match behind_part(bracket, whole, behind_blanks(value.1)) {
         Ok(behind) => Ok(OnePart {
             part: (name.0, value.0),
             goes_on: behind.0,
@@ -167,8 +166,8 @@ pub fn read_shown<'t>(alloc: Global, text: &'t [u8]) -> Result<Shown<'t>, Error>
     ensures read { IfOk result (λ shown. written text.now ≡ Ok (shown_view shown)) }
     ensures refused { IfErr result (IsErrorOf (written text.now)) }
 {
-    match read_within(alloc, MOST_LEVELS, text.len(), skip_blanks(text)) {
-        Ok(value) => check_end(text.len(), value.0, skip_blanks(value.1)),
+    match read_within(alloc, MOST_LEVELS, text.len(), behind_blanks(text)) {
+        Ok(value) => check_end(text.len(), value.0, behind_blanks(value.1)),
         Err(error) => Err(error),
     }
 }
