@@ -86,14 +86,14 @@ parts_step more ((p, true), rest) = read_as (with_part p) (more rest)
 parts_step more ((p, false), rest) = Ok (with_part p (NoPart, rest))
 
 -- Parts up to the closing bracket, so many at the most. Each takes a byte, so one more than bytes is enough.
-unfoldable pub parts : Parse OnePart → ℕ → Parse Parts
-parts one zero bs = refused CannotStand 0
-parts one (suc n) bs = read_then (one bs) (parts_step (parts one n))
+unfoldable pub parts_within : Parse OnePart → ℕ → Parse Parts
+parts_within one zero bs = refused CannotStand 0
+parts_within one (suc n) bs = read_then (one bs) (parts_step (parts_within one n))
 
 -- what brackets hold, from behind the opening one and blanks on
 abbrev pub held_at : Parse Written → Bracket → (whole : ℕ) → Parse Parts
 held_at value bracket whole [] = cannot_stand whole []
-held_at value bracket whole (b ∷ bs) = cond (b == closing bracket) (Ok (NoPart, bs)) (parts (part_at value bracket whole) (suc (length (b ∷ bs))) (b ∷ bs))
+held_at value bracket whole (b ∷ bs) = cond (b == closing bracket) (Ok (NoPart, bs)) (parts_within (part_at value bracket whole) (suc (length (b ∷ bs))) (b ∷ bs))
 
 -- ---- values ----
 
@@ -107,13 +107,16 @@ no_level bracket place bs = refused TooDeep place
 abbrev pub one_level : Parse Written → (whole : ℕ) → Held
 one_level value whole bracket place bs = held_at value bracket whole (after_blanks bs)
 
-abbrev pub bracketed : Bracket → (place : ℕ) → Parts × List ℕ → Written × List ℕ
-bracketed Round place p = (Fields place p.0, p.1)
-bracketed Square place p = (Items place p.0, p.1)
+abbrev pub bracketed : Bracket → (place : ℕ) → Parts → Written
+bracketed Round place ps = Fields place ps
+bracketed Square place ps = Items place ps
+
+abbrev pub bracketed_read : Bracket → (place : ℕ) → Parts × List ℕ → Written × List ℕ
+bracketed_read bracket place p = (bracketed bracket place p.0, p.1)
 
 abbrev pub written_by : Held → (whole : ℕ) → ℕ → List ℕ → Option Bracket → Read (Written × List ℕ)
 written_by held whole b bs None = leaf_at whole (b ∷ bs)
-written_by held whole b bs (Some bracket) = read_as (bracketed bracket (whole - length (b ∷ bs))) (held bracket (whole - length (b ∷ bs)) bs)
+written_by held whole b bs (Some bracket) = read_as (bracketed_read bracket (whole - length (b ∷ bs))) (held bracket (whole - length (b ∷ bs)) bs)
 
 abbrev pub written_with : Held → (whole : ℕ) → Parse Written
 written_with held whole [] = cannot_stand whole []

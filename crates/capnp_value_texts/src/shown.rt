@@ -1,8 +1,8 @@
 //! What a text says, without types: leaves, and brackets with parts.
 ghost use Rattle.std.specs.Prelude.{suc, ◌≡◌, ◌<◌, length, IfErr, IfOk, Ok};
 ghost use Rattle.capnp_value_texts.specs.Errors.{IsErrorOf};
-ghost use Rattle.capnp_value_texts.specs.Seen.{part_read, parts_read, shown_view, written_read};
-ghost use Rattle.capnp_value_texts.specs.Written.{at_end, held_at, part_at, parts, written, written_within};
+ghost use Rattle.capnp_value_texts.specs.Seen.{part_read, parts_read, parts_view, shown_view, written_read};
+ghost use Rattle.capnp_value_texts.specs.Written.{at_end, bracketed, held_at, part_at, parts_within, written, written_within};
 
 use crate::error::{Error, RefusalKind, cannot_stand, place_of, refused};
 use crate::leaf::read_leaf;
@@ -30,7 +30,9 @@ struct OnePart<'t> {
 }
 
 /// What brackets at a place hold.
-fn bracketed<'t>(bracket: Bracket, place: usize, parts: Vec<(Name<'t>, Shown<'t>)>) -> Shown<'t> {
+fn bracketed<'t>(bracket: Bracket, place: usize, parts: Vec<(Name<'t>, Shown<'t>)>) -> Shown<'t>
+    ensures { shown_view result ≡ bracketed bracket place (parts_view parts.items) }
+{
     match bracket {
         Bracket::Round => Shown::Fields(place, parts),
         Bracket::Square => Shown::Items(place, parts),
@@ -96,10 +98,10 @@ fn read_parts<'t>(
     whole: usize,
     bytes: &'t [u8],
 ) -> Result<(Vec<(Name<'t>, Shown<'t>)>, &'t [u8]), Error>
-    ensures read { IfOk result (λ r. parts (part_at (written_within levels whole) bracket whole) (suc (length bytes.now)) bytes.now
+    ensures read { IfOk result (λ r. parts_within (part_at (written_within levels whole) bracket whole) (suc (length bytes.now)) bytes.now
         ≡ Ok (parts_read r)) }
     ensures shorter { IfOk result (λ r. length r.1.now < length bytes.now) }
-    ensures refused { IfErr result (IsErrorOf (parts (part_at (written_within levels whole) bracket whole) (suc (length bytes.now))
+    ensures refused { IfErr result (IsErrorOf (parts_within (part_at (written_within levels whole) bracket whole) (suc (length bytes.now))
         bytes.now)) }
 {
     let mut parts = Vec::new(alloc);

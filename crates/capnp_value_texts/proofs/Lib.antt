@@ -1,0 +1,10 @@
+pub mod Added
+pub mod Grammar
+pub mod Making
+pub mod PlainGiven
+pub mod Refusals
+pub mod RowsCalls
+pub mod RowsTexts
+pub mod Shorter
+pub mod Trees
+pub mod Weights
