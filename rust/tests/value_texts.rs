@@ -323,3 +323,43 @@ fn prints_of_random_messages_are_read() {
     assert!(messages as u64 > SCHEMAS * MESSAGES / 4);
     assert!(fields as u64 > SCHEMAS * MESSAGES);
 }
+
+/// Reads a damaged text: one that is refused has a place in the text, or at its end.
+fn try_damaged(schema: StructSchema<'_>, text: &[u8]) -> bool {
+    match read_root(Global, 1 << 12, schema, text) {
+        Ok(message) => {
+            root_text(&message, schema, true);
+            true
+        }
+        Err(Error::Refused(refusal)) => {
+            assert!(refusal.place <= text.len(), "{}", String::from_utf8_lossy(text));
+            false
+        }
+        Err(_) => false,
+    }
+}
+
+#[test]
+fn damaged_prints_are_refused_within_them() {
+    let examples = Examples::read();
+    let set = &examples.sets[SETS.iter().position(|set| *set == Set::AddressBook).expect("it is listed")];
+    let schema = set.get_struct_named("AddressBook").expect("it is there");
+    let base = examples.bases.iter().find(|base| base.name == "AddressBook").expect("it is there");
+    let print = to_string(Value::Struct(message::read_root(&base.bytes, schema).expect("it is a message")), true).expect("it has a print");
+    for length in 0..print.len() {
+        assert!(!try_damaged(schema, &print.as_bytes()[..length]), "{length}");
+    }
+    let pieces = [&b"("[..], b")", b"[", b"]", b",", b"=", b"\"", b"\\", b" ", b"0x\"", b"<", b"\xff", b"id = ", b"people = ", b"()", b"[]"];
+    let taken = on_all_processors(SCHEMAS, |seed| {
+        let mut random = Random::new(12, seed);
+        let mut text = print.as_bytes().to_vec();
+        for _ in 0..1 + random.below(3) {
+            let at = random.below(text.len());
+            let end = if random.once_in(2) { at } else { text.len().min(at + random.below(6)) };
+            text.splice(at..end, random.one_of(&pieces).iter().copied());
+        }
+        try_damaged(schema, &text)
+    });
+    let taken = taken.into_iter().filter(|taken| *taken).count() as u64;
+    assert!(taken > SCHEMAS / 100 && taken < SCHEMAS / 2, "{taken}");
+}

@@ -1,4 +1,5 @@
 pub mod Added
+pub mod Found
 pub mod Grammar
 pub mod Making
 pub mod PlainGiven

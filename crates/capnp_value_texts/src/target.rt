@@ -76,6 +76,13 @@ fn is_given(mark: u32, given: &[u32]) -> bool
     false
 }
 
+/// The name of a field.
+fn field_name<'s>(field: Field<'s>) -> &'s [u8]
+    ensures { result.now ≡ (typed_of field.entry).field.name }
+{
+    field.get_proto().name.as_bytes()
+}
+
 /// The field of a struct or group that has a name.
 fn find_named<'s>(schema: StructSchema<'s>, name: &[u8]) -> Option<Field<'s>>
     ensures { IsFound schema.entry (field_named (struct_records schema.entry) name.now) result }
@@ -85,7 +92,7 @@ fn find_named<'s>(schema: StructSchema<'s>, name: &[u8]) -> Option<Field<'s>>
     };
     for index in 0..fields.len() {
         let field = fields.get(index);
-        if field.get_proto().name.as_bytes() == name {
+        if field_name(field) == name {
             return Some(field);
         }
     }
