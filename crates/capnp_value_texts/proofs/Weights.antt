@@ -1,6 +1,7 @@
 -- What a text holds is less than the text.
 use Rattle.std.proofs.Common.{ℕ, zero, suc, ◌+◌, ◌<◌, List, [], ◌∷◌, length, get_or, arith}
-use Rattle.capnp_value_texts.specs.Seen.{parts_view, shown_view}
+use Rattle.capnp_value_texts.specs.Seen.{shown_view}
+use Rattle.capnp_value_texts.specs.Steps.Seen.{parts_view}
 use Rattle.capnp_value_texts.specs.Written.{Fields, Items, Leaf, NoPart, Part, Parts, Written}
 use Rattle.capnp_value_texts.proofs.Trees.{PartHeld}
 

@@ -1,7 +1,7 @@
 //! What stands without brackets.
 ghost use Rattle.std.specs.Prelude.{◌≡◌, ◌<◌, length, IfErr, IfOk, Ok};
 ghost use Rattle.capnp_value_texts.specs.Errors.{IsErrorOf};
-ghost use Rattle.capnp_value_texts.specs.Seen.{written_read};
+ghost use Rattle.capnp_value_texts.specs.Steps.Seen.{written_read};
 ghost use Rattle.capnp_value_texts.specs.Written.{leaf_at};
 
 use crate::error::{Error, cannot_stand, place_of};

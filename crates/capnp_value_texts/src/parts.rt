@@ -2,7 +2,7 @@
 ghost use Rattle.std.specs.Prelude.{◌≡◌, ◌<◌, ◌≤◌, length, IfErr, IfOk, Ok};
 ghost use Rattle.capnp_json_text.specs.Readings.{after_blanks};
 ghost use Rattle.capnp_value_texts.specs.Errors.{IsErrorOf};
-ghost use Rattle.capnp_value_texts.specs.Seen.{name_read, rest_read};
+ghost use Rattle.capnp_value_texts.specs.Steps.Seen.{name_read, rest_read};
 ghost use Rattle.capnp_value_texts.specs.Written.{after_equals, behind_part, bracket_of, closing, name_at, name_of};
 
 use crate::error::{Error, cannot_stand, place_of};

@@ -1,7 +1,8 @@
 //! What a text says, without types: leaves, and brackets with parts.
 ghost use Rattle.std.specs.Prelude.{suc, ◌≡◌, ◌<◌, length, IfErr, IfOk, Ok};
 ghost use Rattle.capnp_value_texts.specs.Errors.{IsErrorOf};
-ghost use Rattle.capnp_value_texts.specs.Seen.{part_read, parts_read, parts_view, shown_view, written_read};
+ghost use Rattle.capnp_value_texts.specs.Seen.{shown_view};
+ghost use Rattle.capnp_value_texts.specs.Steps.Seen.{part_read, parts_read, parts_view, written_read};
 ghost use Rattle.capnp_value_texts.specs.Written.{at_end, bracketed, held_at, part_at, parts_within, written, written_within};
 
 use crate::error::{Error, RefusalKind, cannot_stand, place_of, refused};
