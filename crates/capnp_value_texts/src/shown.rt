@@ -22,6 +22,7 @@ pub enum Shown<'t> {
 }
 
 /// A part that was read.
+#[derive(Drop)]
 struct OnePart<'t> {
     part: (Name<'t>, Shown<'t>),
     /// Whether another follows.
@@ -112,13 +113,15 @@ fn read_parts<'t>(
             Ok(one) => one,
             Err(error) => return Err(error),
         };
+        let goes_on = one.goes_on;
+        let behind = one.rest;
         if parts.push(one.part).is_err() {
             return Err(Error::OutOfMemory);
         }
-        if !one.goes_on {
-            return Ok((parts, one.rest));
+        if !goes_on {
+            return Ok((parts, behind));
         }
-        rest = one.rest;
+        rest = behind;
     }
 }
 
