@@ -33,7 +33,7 @@ struct OnePart<'t> {
 
 /// What brackets at a place hold.
 fn bracketed<'t>(bracket: Bracket, place: usize, parts: Vec<(Name<'t>, Shown<'t>)>) -> Shown<'t>
-    ensures { shown_view result ≡ bracketed bracket place (parts_view parts.items) }
+    ensures { shown_view result ≡ bracketed bracket place (parts_view parts.entry.items) }
 {
     match bracket {
         Bracket::Round => Shown::Fields(place, parts),
@@ -180,8 +180,8 @@ pub fn read_shown<'t>(alloc: Global, text: &'t [u8]) -> Result<Shown<'t>, Error>
 
 /// What was read, behind which nothing may be left.
 fn check_end<'t>(whole: usize, shown: Shown<'t>, rest: &[u8]) -> Result<Shown<'t>, Error>
-    ensures read { IfOk result (λ s. at_end whole (shown_view shown) rest.now ≡ Ok (shown_view s)) }
-    ensures refused { IfErr result (IsErrorOf (at_end whole (shown_view shown) rest.now)) }
+    ensures read { IfOk result (λ s. at_end whole (shown_view shown.entry) rest.now ≡ Ok (shown_view s)) }
+    ensures refused { IfErr result (IsErrorOf (at_end whole (shown_view shown.entry) rest.now)) }
 {
     match rest {
         [] => Ok(shown),
