@@ -1,6 +1,6 @@
 //! The calls by which a text is made a value.
 ghost use Rattle.std.specs.Prelude.{◌≡◌, IfErr, IfOk, OnOk, map};
-ghost use Rattle.capnp_call.specs.Seen.{call_seen};
+ghost use Rattle.capnp_call.specs.Seen.{call_seen, op_seen};
 ghost use Rattle.capnp_value_texts.specs.Made.{goal_op, made_call};
 ghost use Rattle.capnp_value_texts.specs.Steps.Adding.{Adds, one_made};
 ghost use Rattle.capnp_value_texts.specs.declared.error.Error.TheVariants.{OutOfMemory};
