@@ -7,5 +7,6 @@ pub mod Refusals
 pub mod RowsCalls
 pub mod RowsTexts
 pub mod Shorter
+pub mod TextsMade
 pub mod Trees
 pub mod Weights

@@ -57,4 +57,4 @@ IsMadeOf schema (Err r) t = ⊥
 
 abbrev pub IsNotMadeOf : StructSchema → Read (List Call) → Error → Type 0
 IsNotMadeOf schema (Ok calls) e = IsNotMade schema calls e
-IsNotMadeOf schema (Err r) e = IsErrorOf (Err r) e
+IsNotMadeOf schema (Err r) e = IsErrorOf {A = List Call} (Err r) e
