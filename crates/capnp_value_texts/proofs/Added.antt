@@ -1,9 +1,9 @@
 -- How calls are added one after another, and from one step further out.
-use Rattle.std.proofs.Common.{◌≡◌, refl, List, [], ◌∷◌, ◌++◌, map, Option, Some, None, ap, ap₂, sym, ◌∙◌, subst}
+use Rattle.std.proofs.Common.{◌≡◌, refl, List, [], ◌∷◌, ◌++◌, map, ap, ap₂, sym, ◌∙◌, subst}
 use Rattle.capnp_records.specs.Call.{Call, PathStep}
 use Rattle.capnp_call.specs.Seen.{path_seen, step_seen}
 use Rattle.capnp_call.specs.declared.calls.Step.{Step}
-use Rattle.capnp_value_texts.specs.Calls.{all_behind, behind}
+use Rattle.capnp_value_texts.specs.Calls.{all_behind}
 use Rattle.capnp_value_texts.specs.Made.{calls_made, goal_op, made_call}
 use Rattle.capnp_value_texts.specs.Steps.Adding.{Adds, all_within, one_made, within}
 use Rattle.capnp_value_texts.specs.declared.made.Goal.{Goal}

@@ -1,7 +1,7 @@
 -- The grammar's loops, a turn at a time.
-use Rattle.std.proofs.Common.{◌≡◌, ℕ, zero, suc, ◌-◌, ◌<◌, ◌≤◌, List, [], ◌∷◌, drop, get_or, length, take, Bool, true, false, Some, None, Ok, Err, refl, subst, sym, ap, ◌∙◌, arith}
+use Rattle.std.proofs.Common.{◌≡◌, ℕ, zero, suc, ◌-◌, ◌<◌, ◌≤◌, List, [], ◌∷◌, drop, get_or, length, take, Bool, true, false, Some, None, Ok, refl, subst, sym, ap, ◌∙◌, arith}
 use Rattle.capnp_json_text.specs.Readings.{after_blanks}
-use Rattle.capnp_value_texts.specs.Errors.{IsErrorOf, Read, read_as, read_then, refused}
+use Rattle.capnp_value_texts.specs.Errors.{IsErrorOf, read_as, read_then, refused}
 use Rattle.capnp_value_texts.specs.Written.{Held, Name, NoPart, OnePart, Parse, Parts, Written, bracket_of, bracketed, bracketed_read, held_at, leaf_at, no_level, one_level, parts_step, parts_within, with_part, written_by, written_with, written_within}
 use Rattle.capnp_value_texts.specs.declared.error.Error.{Error}
 use Rattle.capnp_value_texts.specs.declared.error.Error.TheVariants.{Refused}

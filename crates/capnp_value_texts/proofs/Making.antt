@@ -1,5 +1,5 @@
 -- The calls of values and parts, as they are added.
-use Rattle.std.proofs.Common.{◌≡◌, ℕ, suc, ◌≤◌, refl, List, [], ◌∷◌, ◌++◌, Bool, true, false, cond, length, nat_lt, Result, Ok, Err, ap, sym, ◌∙◌, subst, arith}
+use Rattle.std.proofs.Common.{◌≡◌, ℕ, suc, ◌≤◌, refl, List, [], ◌∷◌, ◌++◌, Bool, false, cond, length, nat_lt, Result, Ok, Err, ap, sym, ◌∙◌, subst, arith}
 use Rattle.std.specs.Prelude.{OnOk}
 use Rattle.std.specs.declared.alloc.Global.{Global}
 use Rattle.std.specs.declared.vec.Vec.{Vec}
@@ -25,7 +25,6 @@ use Rattle.capnp_value_texts.specs.TargetsSeen.{target_seen}
 use Rattle.capnp_value_texts.specs.declared.error.Error.{Error}
 use Rattle.capnp_value_texts.specs.declared.error.Error.TheVariants.{NotMade, OutOfMemory, Refused}
 use Rattle.capnp_value_texts.specs.declared.error.RefusalKind.TheVariants.{CannotStand, SizePastFormat}
-use Rattle.capnp_value_texts.specs.declared.made.Goal.{Goal}
 use Rattle.capnp_value_texts.specs.declared.made.Goal.TheVariants as goal
 use Rattle.capnp_value_texts.specs.declared.made.Made.{Made}
 use Rattle.capnp_value_texts.specs.declared.shown.Shown.{Shown}

@@ -1,5 +1,5 @@
 -- Refusals of parts and of wholes.
-use Rattle.std.proofs.Common.{ℕ, ◌≡◌, Ok, Err, ap, sym, subst, ◌∙◌}
+use Rattle.std.proofs.Common.{ℕ, ◌≡◌, Err, ap, sym, subst, ◌∙◌}
 use Rattle.capnp_value_texts.specs.Errors.{IsErrorOf, Read, read_as, read_then, refused}
 use Rattle.capnp_value_texts.specs.declared.error.Error.{Error}
 use Rattle.capnp_value_texts.specs.declared.error.Error.TheVariants.{NotMade, OutOfMemory, Refused}

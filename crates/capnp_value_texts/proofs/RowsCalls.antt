@@ -1,11 +1,10 @@
 -- Worked rows: the calls by which texts make roots and values, and the places of what has none.
-use Rattle.std.proofs.Common.{◌≡◌, ℕ, true, false, List, [], ◌∷◌, Ok, Err, refl, codes, map}
-use Rattle.std.specs.Prelude.{pos}
+use Rattle.std.proofs.Common.{◌≡◌, ℕ, true, false, List, [], ◌∷◌, Ok, refl, codes, map}
 use Rattle.std.specs.Char.{encode_utf8}
 use Rattle.capnp_schema.specs.Schema.{Schemas, Node, Brand, Field, FieldKind, Slot, Group, VoidValue, UIntValue, TextValue, StructValue, ListValue, no_types}
 use Rattle.capnp_schema.specs.Types.{SchemaType, VoidType, UIntType, TextType, StructType, ListType, AnyPointerType}
-use Rattle.capnp_records.specs.Call.{Call, ElementAt, FieldNumber, Init, Initn, Op, PathStep, Set, Source, TextSource, UIntSource, VoidSource}
-use Rattle.capnp_value_texts.specs.Calls.{field_of_text, root_of_text}
+use Rattle.capnp_records.specs.Call.{Call, ElementAt, FieldNumber, Init, Initn, Op, PathStep, Set, TextSource, UIntSource, VoidSource}
+use Rattle.capnp_value_texts.specs.Calls.{root_of_text}
 use Rattle.capnp_value_texts.specs.Errors.{Read, refused}
 use Rattle.capnp_value_texts.specs.Written.{parts_within, written_within}
 use Rattle.capnp_value_texts.specs.declared.error.RefusalKind.TheVariants.{CannotStand, GivenTwice, NameUnknown}

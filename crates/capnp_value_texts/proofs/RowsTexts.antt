@@ -1,5 +1,5 @@
 -- Worked rows: what texts say, with places, and the places of what can't stand.
-use Rattle.std.proofs.Common.{◌≡◌, [], ◌∷◌, Ok, Err, refl, codes, map}
+use Rattle.std.proofs.Common.{◌≡◌, [], ◌∷◌, Ok, refl, codes, map}
 use Rattle.capnp_value_texts.specs.Errors.{refused}
 use Rattle.capnp_value_texts.specs.Written.{Fields, Items, Leaf, NoPart, Part, parts_within, written, written_within}
 use Rattle.capnp_value_texts.specs.declared.error.RefusalKind.TheVariants.{CannotStand, TooDeep}

@@ -1,11 +1,11 @@
 -- A tree, level by level, and parts that grow at their end.
-use Rattle.std.proofs.Common.{◌≡◌, ℕ, ◌+◌, zero, suc, ◌<◌, length, get_or, arith, List, [], ◌∷◌, ◌++◌, Ok, Err, refl, ap, rules}
+use Rattle.std.proofs.Common.{◌≡◌, ℕ, List, [], ◌∷◌, ◌++◌, Ok, Err, refl, ap, rules}
 use Rattle.std.specs.declared.alloc.Global.{Global}
 use Rattle.std.specs.declared.vec.Vec.{Vec}
 use Rattle.capnp_value_texts.specs.Errors.{Read, read_as}
 use Rattle.capnp_value_texts.specs.Seen.{shown_view}
 use Rattle.capnp_value_texts.specs.Steps.Seen.{name_seen, parts_view}
-use Rattle.capnp_value_texts.specs.Written.{Fields, Items, NoPart, Part, Parts, Written, with_part}
+use Rattle.capnp_value_texts.specs.Written.{Fields, Items, NoPart, Part, Parts, with_part}
 use Rattle.capnp_value_texts.specs.declared.parts.Name.{Name}
 use Rattle.capnp_value_texts.specs.declared.shown.Shown.{Shown, the_lemmas}
 use Rattle.capnp_value_texts.specs.declared.shown.Shown.TheVariants as shown

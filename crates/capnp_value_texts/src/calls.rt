@@ -54,10 +54,7 @@ fn read_word<'s>(
     };
     match read {
         Ok(value) => Ok(value),
-        Err(inner) => Err(refused(
-            RefusalKind::CannotStand,
-            place.saturating_add(inner),
-        )),
+        Err(inner) => Err(refused(RefusalKind::CannotStand, place.saturating_add(inner))),
     }
 }
 
@@ -358,13 +355,7 @@ fn root_fields<'s>(
     }
     let mut path = Vec::new(alloc);
     let mut made = Vec::new(alloc);
-    match make_parts(
-        alloc,
-        Holder::Struct(schema),
-        parts,
-        &mut path,
-        &mut made,
-    ) {
+    match make_parts(alloc, Holder::Struct(schema), parts, &mut path, &mut made) {
         Ok(()) => Ok(made),
         Err(error) => Err(error),
     }

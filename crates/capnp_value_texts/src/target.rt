@@ -100,11 +100,7 @@ fn find_named<'s>(schema: StructSchema<'s>, name: &[u8]) -> Option<Field<'s>>
 }
 
 /// The target of a field at a name's place, which is given from then on.
-fn give_field<'s>(
-    field: Field<'s>,
-    place: usize,
-    given: &mut Vec<u32>,
-) -> Result<Target<'s>, Error>
+fn give_field<'s>(field: Field<'s>, place: usize, given: &mut Vec<u32>) -> Result<Target<'s>, Error>
     ensures read { IfOk result (λ t. field_given place given.old.items (typed_of field.entry) (index_of field.entry)
         ≡ Ok (target_seen t, given.new.items)) }
     ensures refused { IfErr result (IsErrorOf (field_given place given.old.items (typed_of field.entry) (index_of field.entry))) }

@@ -1,5 +1,5 @@
 -- How the calls of a text are added one after another: steps of the code.
-use Rattle.std.specs.Prelude.{◌≡◌, List, [], ◌∷◌, ◌++◌, map, Option, Some, None, Ok, Err}
+use Rattle.std.specs.Prelude.{◌≡◌, List, [], ◌++◌, map, Option, Some, None, Ok, Err}
 use Rattle.capnp_records.specs.Call.{Call, PathStep}
 use Rattle.capnp_call.specs.Seen.{path_seen, step_seen}
 use Rattle.capnp_call.specs.declared.calls.Step.{Step}

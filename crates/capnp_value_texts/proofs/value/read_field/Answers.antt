@@ -1,12 +1,11 @@
 -- A text that was read has the calls that were made; one that was refused, or that has no calls, leaves nothing.
 use Rattle.std.specs.Prelude.{IfErr, IfOk}
-use Rattle.std.proofs.Common.{◌≡◌, List, Ok, sym, subst, ◌∙◌}
+use Rattle.std.proofs.Common.{List, sym, subst, ◌∙◌}
 use Rattle.capnp_arena.specs.Message.{message_tree}
 use Rattle.capnp_schema.specs.FieldLists.{field_schema, index_of, typed_of}
 use Rattle.capnp_schema.specs.declared.schema.structs.StructSchema.{StructSchema}
 use Rattle.capnp_slots.specs.Fields.{field_set}
 use Rattle.capnp_records.specs.Call.{Call}
-use Rattle.capnp_value_texts.specs.Calls.{field_of_text}
 use Rattle.capnp_value_texts.specs.Errors.{Read}
 use Rattle.capnp_value_texts.specs.Made.{calls_made}
 use Rattle.capnp_value_texts.specs.Seen.{shown_view}
