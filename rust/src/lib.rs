@@ -246,6 +246,17 @@ pub mod text {
     pub use crate::capnp_builders::text::{Builder, Owned, Reader};
 }
 
+/// Values as they are printed, read back.
+pub mod value_texts {
+    pub use crate::capnp_value_texts::calls::{field_calls, root_calls};
+    pub use crate::capnp_value_texts::error::{Error, Refusal, RefusalKind};
+    pub use crate::capnp_value_texts::made::{as_calls, Goal, Made};
+    pub use crate::capnp_value_texts::parts::Name;
+    pub use crate::capnp_value_texts::shown::{read_shown, Shown};
+    pub use crate::capnp_value_texts::target::{field_target, Target};
+    pub use crate::capnp_value_texts::value::{read_field, read_root};
+}
+
 /// What handles have in common.
 pub mod traits {
     pub use crate::capnp_base::traits::{

@@ -188,6 +188,17 @@ pub mod text {
     pub use capnp_builders::text::{Builder, Owned, Reader};
 }
 
+/// Values as they are printed, read back.
+pub mod value_texts {
+    pub use capnp_value_texts::calls::{field_calls, root_calls};
+    pub use capnp_value_texts::error::{Error, Refusal, RefusalKind};
+    pub use capnp_value_texts::made::{Goal, Made, as_calls};
+    pub use capnp_value_texts::parts::Name;
+    pub use capnp_value_texts::shown::{Shown, read_shown};
+    pub use capnp_value_texts::target::{Target, field_target};
+    pub use capnp_value_texts::value::{read_field, read_root};
+}
+
 /// What handles have in common.
 pub mod traits {
     pub use capnp_base::traits::{

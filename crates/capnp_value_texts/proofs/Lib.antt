@@ -1,0 +1,12 @@
+pub mod Added
+pub mod Found
+pub mod Grammar
+pub mod Making
+pub mod PlainGiven
+pub mod Refusals
+pub mod RowsCalls
+pub mod RowsTexts
+pub mod Shorter
+pub mod TextsMade
+pub mod Trees
+pub mod Weights

@@ -1,0 +1,9 @@
+pub mod Calls
+pub mod Errors
+pub mod Lengths
+pub mod Made
+pub mod Seen
+pub mod Steps
+pub mod TargetsSeen
+pub mod Values
+pub mod Written
