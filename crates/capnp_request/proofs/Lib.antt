@@ -5,11 +5,11 @@ pub mod BrandsMade
 pub mod EnumsMade
 pub mod FieldsDone
 pub mod FieldsSeen
+pub mod HandlesSeen
 pub mod HoldersHeld
 pub mod ListsRead
 pub mod ListsSaid
 pub mod ListsWalked
-pub mod MembersSeen
 pub mod NamesFinished
 pub mod NamesJoined
 pub mod NamesRead
@@ -17,11 +17,10 @@ pub mod NamesSplit
 pub mod NodesListed
 pub mod NodesRead
 pub mod Numbering
-pub mod NumbersSeen
 pub mod OrderMade
+pub mod PartsRead
 pub mod PartsSeen
 pub mod PlainFields
-pub mod PointersMet
 pub mod PointersSeen
 pub mod ProgressMade
 pub mod Refused

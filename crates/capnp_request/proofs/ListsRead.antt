@@ -21,7 +21,7 @@ use Rattle.capnp_dynamic_readers.specs.declared.dynamic_list.Reader.{Reader as L
 use Rattle.capnp_dynamic_readers.specs.declared.dynamic_struct.Reader.{Reader as StructHandle}
 use Rattle.capnp_request.specs.Handles.{IsRequestRecord}
 use Rattle.capnp_request.specs.RequestSet.{request_set}
-use Rattle.capnp_request.proofs.FieldsSeen.{record_in}
+use Rattle.capnp_request.proofs.HandlesSeen.{record_in}
 use Rattle.capnp_request.specs.Steps.Handles.{IsListOf, element_in, values_left}
 use Rattle.capnp_request.specs.Parts.{element_read, request_struct}
 use Rattle.capnp_request.specs.Reading.{all_said, each_said, in_struct, list_said, list_value_count, whole_list}

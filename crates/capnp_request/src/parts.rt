@@ -19,6 +19,7 @@ ghost use Rattle.capnp_dynamic_readers.specs.Reads.{element_seen};
 ghost use Rattle.capnp_dynamic_readers.specs.Seen.{answered_value, list_seen, record_seen, value_seen};
 ghost use Rattle.capnp_dynamic_readers.specs.Typed.{IsOf};
 ghost use Rattle.capnp_dynamic_readers.specs.declared.dynamic_value.Reader.TheVariants as dynamic;
+ghost use Rattle.capnp_known.specs.Known.{IsActive, record_in};
 ghost use Rattle.capnp_request.specs.Conversion.{converted_name};
 ghost use Rattle.capnp_request.specs.Handles.{IsRequestRecord};
 ghost use Rattle.capnp_request.specs.Steps.Handles.{IsRequestFieldActive, IsAlwaysRead, IsRequestField, IsRequestSlot, IsGroupField, IsListOf};
@@ -27,16 +28,24 @@ ghost use Rattle.capnp_request.specs.Steps.Parts.{request_structs};
 ghost use Rattle.capnp_request.specs.Refusals.{IsUnstrict};
 
 use crate::entries::entry_type;
-use crate::places::{FIELD_GROUP, FIELD_SLOT};
+use crate::places::{FIELD_SLOT, brands};
 use capnp_base::{any_pointer, text};
 use capnp_dynamic_readers::dynamic_value::Reader as Value;
 use capnp_dynamic_readers::{dynamic_list, dynamic_struct};
-use capnp_schema::loaded::load_pair;
+use capnp_known::known_set::KnownSet;
+use capnp_known::members::member_at;
+use capnp_known::{numbers, pointers};
 use capnp_schema::schema::StructSchema;
+use capnp_wire::StructReader;
 use capnp_wire::error::{Error, ErrorKind, Result};
-use capnp_wire::laws::struct_is_well_formed;
-use capnp_wire::size::ElementSize;
 use std::alloc::Global;
+
+/// The request set, as one that is known.
+pub(crate) struct RequestSet;
+
+impl KnownSet for RequestSet {
+    ghost set = { request_set };
+}
 
 /// The index of the active member of a struct's union, none where there is no union or its number is unknown.
 pub(crate) fn active_member(reader: dynamic_struct::Reader<'_>) -> Option<u16>
@@ -57,14 +66,7 @@ pub(crate) fn field_member(reader: dynamic_struct::Reader<'_>) -> Option<u16>
     ensures { result ≡ which_of (record_seen reader.entry) }
 {
     let sections = reader.get_sections();
-    let number = load_pair(&sections, 64);
-    if number == 0 {
-        return Some(FIELD_SLOT);
-    }
-    if number == 1 {
-        return Some(FIELD_GROUP);
-    }
-    None
+    member_at::<RequestSet>(&sections, brands::FIELD, 64, FIELD_SLOT, 2)
 }
 
 /// The index of the active member of a type's record, none where its number is unknown.
@@ -74,11 +76,7 @@ pub(crate) fn type_member(reader: dynamic_struct::Reader<'_>) -> Option<u16>
     ensures { result ≡ which_of (record_seen reader.entry) }
 {
     let sections = reader.get_sections();
-    let number = load_pair(&sections, 0);
-    if number < 19 {
-        return Some(number);
-    }
-    None
+    member_at::<RequestSet>(&sections, brands::TYPE, 0, 0, 19)
 }
 
 /// The index of the active member of a value's record, none where its number is unknown.
@@ -88,11 +86,7 @@ pub(crate) fn value_member(reader: dynamic_struct::Reader<'_>) -> Option<u16>
     ensures { result ≡ which_of (record_seen reader.entry) }
 {
     let sections = reader.get_sections();
-    let number = load_pair(&sections, 0);
-    if number < 19 {
-        return Some(number);
-    }
-    None
+    member_at::<RequestSet>(&sections, brands::VALUE, 0, 0, 19)
 }
 
 /// What field `index` of a record of brand `brand` has. It has to be a non-union field or the active member.
@@ -127,6 +121,22 @@ fn sure_part<'a>(reader: dynamic_struct::Reader<'a>, brand: u32, index: u16) -> 
     value
 }
 
+/// The sections of a record, of which a field is read.
+#[inline(always)]
+fn sections_at<'a>(
+    reader: dynamic_struct::Reader<'a>,
+    brand: u32,
+    index: u16,
+) -> StructReader<'a>
+    requires record { IsRequestRecord brand reader }
+    requires active { IsRequestFieldActive brand index reader }
+    ensures record { record_in request_set brand result ≡ record_seen reader.entry }
+    ensures active { IsActive request_set brand index result }
+{
+    let (_brand, _index) = (brand, index);
+    reader.get_sections()
+}
+
 /// A `u8` whose default is 0, at an offset in units of its size.
 #[inline(always)]
 pub(crate) fn u8_at(reader: dynamic_struct::Reader<'_>, brand: u32, index: u16, offset: u32) -> u8
@@ -135,10 +145,8 @@ pub(crate) fn u8_at(reader: dynamic_struct::Reader<'_>, brand: u32, index: u16, 
     requires active { IsRequestFieldActive brand index reader }
     ensures { value.Number (pos result) ≡ request_read_at brand index (record_seen reader.entry) }
 {
-    let (_brand, _index) = (brand, index);
-    let sections = reader.get_sections();
-    struct_is_well_formed(&sections);
-    sections.get_data_field_mask::<u8>(offset, 0)
+    let sections = sections_at(reader, brand, index);
+    numbers::u8_at::<RequestSet>(&sections, brand, index, offset)
 }
 
 /// A `u16`, with its default.
@@ -155,10 +163,8 @@ pub(crate) fn u16_at(
     requires active { IsRequestFieldActive brand index reader }
     ensures { value.Number (pos result) ≡ request_read_at brand index (record_seen reader.entry) }
 {
-    let (_brand, _index) = (brand, index);
-    let sections = reader.get_sections();
-    struct_is_well_formed(&sections);
-    sections.get_data_field_mask::<u16>(offset, default)
+    let sections = sections_at(reader, brand, index);
+    numbers::u16_at::<RequestSet>(&sections, brand, index, offset, default)
 }
 
 /// A `u32` whose default is 0.
@@ -169,10 +175,8 @@ pub(crate) fn u32_at(reader: dynamic_struct::Reader<'_>, brand: u32, index: u16,
     requires active { IsRequestFieldActive brand index reader }
     ensures { value.Number (pos result) ≡ request_read_at brand index (record_seen reader.entry) }
 {
-    let (_brand, _index) = (brand, index);
-    let sections = reader.get_sections();
-    struct_is_well_formed(&sections);
-    sections.get_data_field_mask::<u32>(offset, 0)
+    let sections = sections_at(reader, brand, index);
+    numbers::u32_at::<RequestSet>(&sections, brand, index, offset)
 }
 
 /// A `u64` whose default is 0.
@@ -183,10 +187,8 @@ pub(crate) fn u64_at(reader: dynamic_struct::Reader<'_>, brand: u32, index: u16,
     requires active { IsRequestFieldActive brand index reader }
     ensures { value.Number (pos result) ≡ request_read_at brand index (record_seen reader.entry) }
 {
-    let (_brand, _index) = (brand, index);
-    let sections = reader.get_sections();
-    struct_is_well_formed(&sections);
-    sections.get_data_field_mask::<u64>(offset, 0)
+    let sections = sections_at(reader, brand, index);
+    numbers::u64_at::<RequestSet>(&sections, brand, index, offset)
 }
 
 /// An `i8` whose default is 0.
@@ -197,10 +199,8 @@ pub(crate) fn i8_at(reader: dynamic_struct::Reader<'_>, brand: u32, index: u16, 
     requires active { IsRequestFieldActive brand index reader }
     ensures { value.Number result ≡ request_read_at brand index (record_seen reader.entry) }
 {
-    let (_brand, _index) = (brand, index);
-    let sections = reader.get_sections();
-    struct_is_well_formed(&sections);
-    sections.get_data_field_mask::<u8>(offset, 0).cast_signed()
+    let sections = sections_at(reader, brand, index);
+    numbers::i8_at::<RequestSet>(&sections, brand, index, offset)
 }
 
 /// An `i16` whose default is 0.
@@ -211,10 +211,8 @@ pub(crate) fn i16_at(reader: dynamic_struct::Reader<'_>, brand: u32, index: u16,
     requires active { IsRequestFieldActive brand index reader }
     ensures { value.Number result ≡ request_read_at brand index (record_seen reader.entry) }
 {
-    let (_brand, _index) = (brand, index);
-    let sections = reader.get_sections();
-    struct_is_well_formed(&sections);
-    sections.get_data_field_mask::<u16>(offset, 0).cast_signed()
+    let sections = sections_at(reader, brand, index);
+    numbers::i16_at::<RequestSet>(&sections, brand, index, offset)
 }
 
 /// An `i32` whose default is 0.
@@ -225,10 +223,8 @@ pub(crate) fn i32_at(reader: dynamic_struct::Reader<'_>, brand: u32, index: u16,
     requires active { IsRequestFieldActive brand index reader }
     ensures { value.Number result ≡ request_read_at brand index (record_seen reader.entry) }
 {
-    let (_brand, _index) = (brand, index);
-    let sections = reader.get_sections();
-    struct_is_well_formed(&sections);
-    sections.get_data_field_mask::<u32>(offset, 0).cast_signed()
+    let sections = sections_at(reader, brand, index);
+    numbers::i32_at::<RequestSet>(&sections, brand, index, offset)
 }
 
 /// An `i64` whose default is 0.
@@ -239,10 +235,8 @@ pub(crate) fn i64_at(reader: dynamic_struct::Reader<'_>, brand: u32, index: u16,
     requires active { IsRequestFieldActive brand index reader }
     ensures { value.Number result ≡ request_read_at brand index (record_seen reader.entry) }
 {
-    let (_brand, _index) = (brand, index);
-    let sections = reader.get_sections();
-    struct_is_well_formed(&sections);
-    sections.get_data_field_mask::<u64>(offset, 0).cast_signed()
+    let sections = sections_at(reader, brand, index);
+    numbers::i64_at::<RequestSet>(&sections, brand, index, offset)
 }
 
 /// A truth value whose default is false.
@@ -258,8 +252,8 @@ pub(crate) fn bool_at(
     requires active { IsRequestFieldActive brand index reader }
     ensures { value.Truth result ≡ request_read_at brand index (record_seen reader.entry) }
 {
-    let (_brand, _index) = (brand, index);
-    reader.get_sections().get_bool_field(offset)
+    let sections = sections_at(reader, brand, index);
+    numbers::bool_at::<RequestSet>(&sections, brand, index, offset)
 }
 
 /// The bytes of a text.
@@ -277,8 +271,8 @@ pub(crate) fn text_at<'a>(
     ensures refused { IfErr result (λ e. value.Fault e.kind ≡ request_read_at brand index (record_seen reader.entry)) }
     ensures kinds { IfErr result (λ e. IsUnstrict e.kind) }
 {
-    let (_brand, _index) = (brand, index);
-    reader.get_sections().get_pointer_field(place).get_text()
+    let sections = sections_at(reader, brand, index);
+    pointers::text_at::<RequestSet>(&sections, brand, index, place)
 }
 
 /// The bytes of a data.
@@ -296,8 +290,8 @@ pub(crate) fn data_at<'a>(
     ensures refused { IfErr result (λ e. value.Fault e.kind ≡ request_read_at brand index (record_seen reader.entry)) }
     ensures kinds { IfErr result (λ e. IsUnstrict e.kind) }
 {
-    let (_brand, _index) = (brand, index);
-    reader.get_sections().get_pointer_field(place).get_data()
+    let sections = sections_at(reader, brand, index);
+    pointers::data_at::<RequestSet>(&sections, brand, index, place)
 }
 
 /// An untyped pointer.
@@ -346,10 +340,10 @@ pub(crate) fn struct_at<'a>(
     ensures refused { IfErr result (λ e. value.Fault e.kind ≡ request_read_at brand index (record_seen reader.entry)) }
     ensures kinds { IfErr result (λ e. IsUnstrict e.kind) }
 {
-    let (_brand, _index) = (brand, index);
     let schema = reader.get_schema().get_set().struct_schema(inner);
-    match reader.get_sections().get_pointer_field(place).get_struct() {
-        Ok(sections) => Ok(dynamic_struct::Reader::new(sections, schema)),
+    let sections = sections_at(reader, brand, index);
+    match pointers::struct_at::<RequestSet>(&sections, brand, index, place, inner) {
+        Ok(found) => Ok(dynamic_struct::Reader::new(found, schema)),
         Err(error) => Err(error),
     }
 }
@@ -393,14 +387,10 @@ pub(crate) fn list_at<'a>(
     ensures refused { IfErr result (λ e. value.Fault e.kind ≡ request_read_at brand index (record_seen reader.entry)) }
     ensures kinds { IfErr result (λ e. IsUnstrict e.kind) }
 {
-    let (_brand, _index) = (brand, index);
     let schemas = reader.get_schema().get_set();
     let element = entry_type(inner);
-    match reader
-        .get_sections()
-        .get_pointer_field(place)
-        .get_list(ElementSize::InlineComposite)
-    {
+    let sections = sections_at(reader, brand, index);
+    match pointers::structs_at::<RequestSet>(&sections, brand, index, place, inner) {
         Ok(list) => Ok(dynamic_list::Reader::new(list, element, schemas)),
         Err(error) => Err(error),
     }

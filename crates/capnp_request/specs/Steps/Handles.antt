@@ -1,10 +1,11 @@
 -- Handles of parts of a request's record: steps of the code.
-use Rattle.std.specs.Prelude.{ℕ, ◌-◌, ◌≡◌, ◌<◌, ◌⊎◌, Bool, true, false, length, Some}
+use Rattle.std.specs.Prelude.{ℕ, ◌-◌, ◌≡◌, ◌⊎◌, Bool, true, false, Some}
 use Rattle.capnp_wire.specs.Reading.{list_length}
 use Rattle.capnp_wire.specs.Standing.{list_levels, list_of}
 use Rattle.capnp_schema.specs.Accepted.{NamesEntries}
+use Rattle.capnp_known.specs.Known as known
 use Rattle.capnp_request.specs.RequestSet.{request_set}
-use Rattle.capnp_schema.specs.Schema.{FieldKind, Group, Slot, field_at, fields_of, is_member, Value as SchemaValue}
+use Rattle.capnp_schema.specs.Schema.{FieldKind, Group, Slot, field_at, is_member, Value as SchemaValue}
 use Rattle.capnp_schema.specs.Types.{SchemaType, VoidType, BoolType, IntType, UIntType, EnumType, TextType, DataType, StructType, ListType, AnyPointerType}
 use Rattle.capnp_records.specs.Facts.ReadFaults.{Sound}
 use Rattle.capnp_records.specs.Facts.ListValues.{below_of}
@@ -21,11 +22,11 @@ abbrev pub IsRequestFieldActive : ℕ → ℕ → StructHandle → Type 0
 IsRequestFieldActive b i s = (is_member (field_at request_set b i).field ≡ false) ⊎ (which_of (record_seen s) ≡ Some i)
 
 abbrev pub IsRequestField : ℕ → ℕ → SchemaType → Type 0
-IsRequestField b i t = (i < length (fields_of request_set b)) × ((field_at request_set b i).type ≡ t)
+IsRequestField b i t = known.IsField request_set b i t
 
--- the same of a slot at a place, in units of its width or among the pointers, with its default
+-- a slot at a place, in units of its width or among the pointers, with its default
 abbrev pub IsRequestSlot : ℕ → ℕ → SchemaType → ℕ → SchemaValue → Type 0
-IsRequestSlot b i t place default = IsRequestField b i t × ((field_at request_set b i).field.kind ≡ Slot place default)
+IsRequestSlot b i t place default = known.IsSlot request_set b i t place default
 
 -- the field is a group
 abbrev pub is_group_kind : FieldKind → Bool

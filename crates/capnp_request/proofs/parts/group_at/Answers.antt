@@ -1,8 +1,9 @@
--- The same struct under the group's brand is what the record holds at the field.
+-- A struct under the group's brand is what the record holds at the field.
 use Rattle.std.proofs.Common.{ap, sym, ◌∙◌, rules}
 use Rattle.capnp_records.specs.Record as value
 use Rattle.capnp_request.specs.Handles.{IsRequestRecord}
-use Rattle.capnp_request.proofs.FieldsSeen.{group_seen, record_in}
+use Rattle.capnp_request.proofs.FieldsSeen.{group_seen}
+use Rattle.capnp_request.proofs.HandlesSeen.{record_in}
 use Rattle.capnp_request.proofs.parts.group_at.Goals as goal
 
 pub returns-clause-read : goal.returns-clause-read
