@@ -10,18 +10,15 @@ use Rattle.capnp_records.specs.Facts.Groups.{part_of_group}
 use Rattle.capnp_records.specs.Reading.{part_of, record_of, values_of}
 use Rattle.capnp_records.specs.Record as value
 use Rattle.capnp_records.specs.Record.{Left, Record}
-use Rattle.capnp_dynamic_readers.specs.Handles.{reader_of}
 use Rattle.capnp_dynamic_readers.specs.Reads.{handed_out}
-use Rattle.capnp_dynamic_readers.specs.Seen.{record_seen}
-use Rattle.capnp_dynamic_readers.specs.declared.dynamic_struct.Reader.{Reader as StructHandle}
 use Rattle.capnp_known.specs.Known.{IsActive, IsField, read_at, record_in, struct_type}
 use Rattle.capnp_known.specs.Facts.PartsSeen.{part_seen}
-use Rattle.capnp_request.specs.Handles.{IsRequestRecord}
 use Rattle.capnp_request.specs.Parts.{request_read_at, request_struct}
 use Rattle.capnp_request.specs.RequestSet.{request_set}
 use Rattle.capnp_request.specs.Steps.Handles.{IsGroupField, IsRequestField, IsRequestFieldActive, is_group_kind}
-use Rattle.capnp_request.proofs.HandlesSeen as handles
-use Rattle.capnp_request.proofs.PartsRead.{active_in, there}
+use Rattle.capnp_request.specs.Steps.Seen.{IsRequestRecord, record_seen}
+use Rattle.capnp_request.specs.declared.handles.RequestRecord.{RequestRecord}
+use Rattle.capnp_request.proofs.PartsRead.{active_in, same_record, there}
 use Rattle.capnp_request.proofs.RequestAccepted.{request_accepted}
 
 module _ (set : Schemas) where
@@ -42,5 +39,6 @@ module _ (set : Schemas) where
         part_of_group set accepted (Left (struct_levels x)) (struct_of x).bytes (values_of set (struct_of x).pointers) b i g inside field.0 (named_group f.field.kind f.type g group field.1) in
         sym (part_seen set x b i active field.0 ∙ (ap (λ v. handed_out f.field.kind (read_field set f v)) part ∙ handed_group f.field.kind (kind_default f.field.kind) f.type (record_of set (Left (struct_levels x)) (struct_of x).bytes (values_of set (struct_of x).pointers) g) group))
 
-pub group_seen : (s : StructHandle) (b i : ℕ) → IsRequestRecord b s → IsRequestFieldActive b i s → (x : StructReader) → x ≡ reader_of s → (g : ℕ) → b < length request_set.brands → IsRequestField b i (request_struct g) → IsGroupField b i → value.Struct (record_in request_set g x) ≡ request_read_at b i (record_seen s)
-group_seen s b i is active x e g inside field group = there b i (handles.record_in s x b is e) (group_read request_set request_accepted x b i g (active_in s x b is e i active) inside field group)
+pub group_seen : (s : RequestRecord) (b i g : ℕ) → IsRequestRecord b s → IsRequestFieldActive b i s → b < length request_set.brands → IsRequestField b i (request_struct g) → IsGroupField b i →
+    value.Struct (record_in request_set g s.sections) ≡ request_read_at b i (record_seen s)
+group_seen s b i g is active inside field group = there b i (same_record s b is) (group_read request_set request_accepted s.sections b i g (active_in s b i is active) inside field group)

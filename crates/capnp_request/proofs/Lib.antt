@@ -1,15 +1,14 @@
-pub mod Always
 pub mod AnnotationsDone
 pub mod BindingsCompared
 pub mod BrandsMade
 pub mod EnumsMade
 pub mod FieldsDone
 pub mod FieldsSeen
-pub mod HandlesSeen
 pub mod HoldersHeld
 pub mod ListsRead
 pub mod ListsSaid
 pub mod ListsWalked
+pub mod MembersSeen
 pub mod NamesFinished
 pub mod NamesJoined
 pub mod NamesRead
@@ -19,7 +18,6 @@ pub mod NodesRead
 pub mod Numbering
 pub mod OrderMade
 pub mod PartsRead
-pub mod PartsSeen
 pub mod PlainFields
 pub mod PointersSeen
 pub mod ProgressMade
@@ -33,9 +31,9 @@ pub mod ScopesRead
 pub mod SizesTaken
 pub mod Sounds
 pub mod StructsMade
-pub mod Taken
 pub mod TypesDone
 pub mod TypesSeen
+pub mod UntypedSeen
 pub mod ValuesRead
 pub mod Walks
 pub mod WithinMade

@@ -6,8 +6,8 @@ use Rattle.capnp_device.specs.declared.error.ErrorKind.{ErrorKind}
 use Rattle.capnp_records.specs.Facts.ReadFaults.{Sound}
 use Rattle.capnp_records.specs.Record as value
 use Rattle.capnp_records.specs.Record.{Value}
-use Rattle.capnp_dynamic_readers.specs.Seen.{record_seen}
-use Rattle.capnp_dynamic_readers.specs.declared.dynamic_struct.Reader.{Reader as StructHandle}
+use Rattle.capnp_request.specs.Steps.Seen.{record_seen}
+use Rattle.capnp_request.specs.declared.handles.RequestRecord.{RequestRecord}
 use Rattle.capnp_known.specs.Known.{data_value, text_value}
 use Rattle.capnp_request.specs.Parts.{request_read_at}
 use Rattle.capnp_request.specs.Refusals.{IsUnstrict}
@@ -30,9 +30,9 @@ data_refused (Ok x) v e = tt
 data_refused (Err f) v e = e
 
 -- a refusal is one of those of reads
-pub fault_kinds : (kind : ErrorKind) (s : StructHandle) (b i : ℕ) → value.Fault kind ≡ request_read_at b i (record_seen s) → IsUnstrict kind
+pub fault_kinds : (kind : ErrorKind) (s : RequestRecord) (b i : ℕ) → value.Fault kind ≡ request_read_at b i (record_seen s) → IsUnstrict kind
 fault_kinds kind s b i h = of_reads kind (subst Sound (sym h) (read_at_sound b i (record_seen s) (seen_sound s)))
 
-pub refused_kinds : {A : Type 0} (r : Result A Error) (s : StructHandle) (b i : ℕ) → IfErr r (λ e. value.Fault e.kind ≡ request_read_at b i (record_seen s)) → IfErr r (λ e. IsUnstrict e.kind)
+pub refused_kinds : {A : Type 0} (r : Result A Error) (s : RequestRecord) (b i : ℕ) → IfErr r (λ e. value.Fault e.kind ≡ request_read_at b i (record_seen s)) → IfErr r (λ e. IsUnstrict e.kind)
 refused_kinds (Ok a) s b i h = tt
 refused_kinds (Err error) s b i h = fault_kinds error.kind s b i h

@@ -1,7 +1,7 @@
 use Rattle.std.proofs.Common.{◌∙◌, ap}
 use Rattle.capnp_records.specs.Part.{which_of}
-use Rattle.capnp_request.proofs.HandlesSeen.{record_in}
+use Rattle.capnp_request.proofs.PartsRead.{same_record}
 use Rattle.capnp_request.proofs.parts.field_member.Goals as goal
 
 pub returns : goal.returns
-returns c = c.member_at.ensures ∙ ap which_of (record_in c.args.reader c.get_sections-sections.result 8 c.requires c.get_sections-sections.ensures)
+returns c = c.member_at.ensures ∙ ap which_of (same_record c.args.reader 8 c.requires)

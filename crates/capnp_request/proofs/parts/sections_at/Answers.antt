@@ -1,9 +1,8 @@
-use Rattle.capnp_request.proofs.HandlesSeen.{record_in}
-use Rattle.capnp_request.proofs.PartsRead.{active_in}
+use Rattle.capnp_request.proofs.PartsRead.{active_in, same_record}
 use Rattle.capnp_request.proofs.parts.sections_at.Goals as goal
 
 pub returns-clause-record : goal.returns-clause-record
-returns-clause-record c = record_in c.args.reader c.get_sections.result c.args.brand c.requires.record c.get_sections.ensures
+returns-clause-record c = same_record c.args.reader c.args.brand c.requires.record
 
 pub returns-clause-active : goal.returns-clause-active
-returns-clause-active c = active_in c.args.reader c.get_sections.result c.args.brand c.requires.record c.get_sections.ensures c.args.index c.requires.active
+returns-clause-active c = active_in c.args.reader c.args.brand c.args.index c.requires.record c.requires.active

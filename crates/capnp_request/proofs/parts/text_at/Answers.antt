@@ -1,5 +1,5 @@
 -- What is read is what the record holds at the field; both outcomes follow from it.
-use Rattle.capnp_dynamic_readers.specs.Seen.{record_seen}
+use Rattle.capnp_request.specs.Steps.Seen.{record_seen}
 use Rattle.capnp_request.specs.Parts.{request_read_at}
 use Rattle.capnp_request.proofs.PartsRead.{there}
 use Rattle.capnp_request.proofs.PointersSeen.{text_refused, text_taken, refused_kinds}
