@@ -1,5 +1,5 @@
 -- The active member of a node, by the number at the discriminant's place. A field that is no member stands behind the members.
-use Rattle.std.proofs.Common.{ℕ, ◌+◌, ◌<◌, ◌≤◌, ◌≡◌, ◌∙◌, suc, arith, ap, refl, sym, Bool, true, false, ◌==◌, cond, Option, Some, None}
+use Rattle.std.proofs.Common.{ℕ, ◌+◌, ◌<◌, ◌≤◌, ◌≡◌, ◌∙◌, zero, suc, arith, ap, refl, sym, Bool, true, false, ◌==◌, cond, Option, Some, None}
 use Rattle.capnp_wire.specs.Standing.{struct_levels, struct_of}
 use Rattle.capnp_wire.specs.declared.struct_reader.StructReader.{StructReader}
 use Rattle.capnp_schema.specs.Schema.{field_at, fields_of}
@@ -45,21 +45,21 @@ six_of vs part n false false false false false true = refl
 six_of vs part n false false false false false false = refl
 
 number_here : (n : ℕ) → n < 6 → Some (5 + n) ≡ member_by n
-number_here 0 h = refl
-number_here 1 h = refl
-number_here 2 h = refl
-number_here 3 h = refl
-number_here 4 h = refl
-number_here 5 h = refl
+number_here zero h = refl
+number_here (suc zero) h = refl
+number_here (suc (suc zero)) h = refl
+number_here (suc (suc (suc zero))) h = refl
+number_here (suc (suc (suc (suc zero)))) h = refl
+number_here (suc (suc (suc (suc (suc zero))))) h = refl
 number_here (suc (suc (suc (suc (suc (suc n)))))) h = absurd (omega (arith, h))
 
 number_past : (n : ℕ) → 6 ≤ n → None ≡ member_by n
-number_past 0 h = absurd (omega (arith, h))
-number_past 1 h = absurd (omega (arith, h))
-number_past 2 h = absurd (omega (arith, h))
-number_past 3 h = absurd (omega (arith, h))
-number_past 4 h = absurd (omega (arith, h))
-number_past 5 h = absurd (omega (arith, h))
+number_past zero h = absurd (omega (arith, h))
+number_past (suc zero) h = absurd (omega (arith, h))
+number_past (suc (suc zero)) h = absurd (omega (arith, h))
+number_past (suc (suc (suc zero))) h = absurd (omega (arith, h))
+number_past (suc (suc (suc (suc zero)))) h = absurd (omega (arith, h))
+number_past (suc (suc (suc (suc (suc zero))))) h = absurd (omega (arith, h))
 number_past (suc (suc (suc (suc (suc (suc n)))))) h = refl
 
 module _ (x : StructReader) (number : ℕ) (e : number ≡ bits_at (struct_of x).bytes 96 16) where
