@@ -1,5 +1,6 @@
 -- The active member of a node, by the number at the discriminant's place. A field that is no member stands behind the members.
 use Rattle.std.proofs.Common.{ℕ, ◌+◌, ◌<◌, ◌≤◌, ◌≡◌, ◌∙◌, zero, suc, arith, ap, refl, sym, Bool, true, false, ◌==◌, cond, Option, Some, None}
+use Rattle.std.proofs.lemmas.Bool.{eqb-true}
 use Rattle.capnp_wire.specs.Standing.{struct_levels, struct_of}
 use Rattle.capnp_wire.specs.declared.struct_reader.StructReader.{StructReader}
 use Rattle.capnp_schema.specs.Schema.{field_at, fields_of}
@@ -53,14 +54,26 @@ number_here (suc (suc (suc (suc zero)))) h = refl
 number_here (suc (suc (suc (suc (suc zero))))) h = refl
 number_here (suc (suc (suc (suc (suc (suc n)))))) h = absurd (omega (arith, h))
 
+differs : (k n : ℕ) → k < n → (k == n) ≡ false
+differs k n h = go (k == n) refl
+  where
+    go : (q : Bool) → (k == n) ≡ q → (k == n) ≡ false
+    go true e = absurd (omega (arith, eqb-true k n e, h))
+    go false e = e
+
+none_of : (a b c d e f : Bool) → a ≡ false → b ≡ false → c ≡ false → d ≡ false → e ≡ false → f ≡ false → None ≡ first_of a b c d e f
+none_of true b c d e f p q r s t u = cc
+none_of false true c d e f p q r s t u = cc
+none_of false false true d e f p q r s t u = cc
+none_of false false false true e f p q r s t u = cc
+none_of false false false false true f p q r s t u = cc
+none_of false false false false false true p q r s t u = cc
+none_of false false false false false false p q r s t u = refl
+
 number_past : (n : ℕ) → 6 ≤ n → None ≡ member_by n
-number_past zero h = absurd (omega (arith, h))
-number_past (suc zero) h = absurd (omega (arith, h))
-number_past (suc (suc zero)) h = absurd (omega (arith, h))
-number_past (suc (suc (suc zero))) h = absurd (omega (arith, h))
-number_past (suc (suc (suc (suc zero)))) h = absurd (omega (arith, h))
-number_past (suc (suc (suc (suc (suc zero))))) h = absurd (omega (arith, h))
-number_past (suc (suc (suc (suc (suc (suc n)))))) h = refl
+number_past n h =
+    none_of (0 == n) (1 == n) (2 == n) (3 == n) (4 == n) (5 == n) (differs 0 n (omega (arith, h))) (differs 1 n (omega (arith, h))) (differs 2 n (omega (arith, h)))
+    (differs 3 n (omega (arith, h))) (differs 4 n (omega (arith, h))) (differs 5 n (omega (arith, h)))
 
 module _ (x : StructReader) (number : ℕ) (e : number ≡ bits_at (struct_of x).bytes 96 16) where
   abbrev part_in : ℕ → Value

@@ -4,12 +4,12 @@ use Rattle.std.proofs.Common.{refl, subst, sym}
 use Rattle.capnp_records.specs.Facts.ReadFaults.{Sound}
 use Rattle.capnp_request.specs.Steps.Seen.{record_seen}
 use Rattle.capnp_request.proofs.PartsRead.{there}
-use Rattle.capnp_request.proofs.PointersSeen.{fault_kinds}
+use Rattle.capnp_request.proofs.PointersSeen.{fault_kinds, list_there}
 use Rattle.capnp_request.proofs.Sounds.{read_at_sound, seen_sound}
 use Rattle.capnp_request.proofs.parts.list_at.Goals as goal
 
 pub returns-in-Ok-clause-read : goal.returns-in-Ok-clause-read
-returns-in-Ok-clause-read c = there c.args.brand c.args.index c.sections_at-sections.ensures.record c.in-Ok.ensures
+returns-in-Ok-clause-read c = list_there c.args.brand c.args.index c.args.inner c.sections_at-sections.ensures.record c.in-Ok.elements c.in-Ok.ensures
 
 pub returns-in-Ok-clause-elements : goal.returns-in-Ok-clause-elements
 returns-in-Ok-clause-elements c = record {
