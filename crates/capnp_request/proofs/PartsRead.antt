@@ -11,6 +11,7 @@ use Rattle.capnp_request.specs.declared.handles.RequestRecord.{RequestRecord}
 
 -- a handle's record is that of its sections, under the brand that it is known to have
 pub same_record : (s : RequestRecord) (b : ℕ) → IsRequestRecord b s → record_in request_set b s.sections ≡ record_seen s
+unfolding record_seen
 same_record s b is = ap (λ n. record_in request_set n s.sections) (sym is.number)
 
 pub active_in : (s : RequestRecord) (b i : ℕ) → IsRequestRecord b s → IsRequestFieldActive b i s → IsActive request_set b i s.sections

@@ -33,6 +33,7 @@ record_sound set n s b =
     go false e h = h
 
 pub seen_sound : (s : RequestRecord) → RecordSound (record_seen s)
+unfolding record_seen
 seen_sound s = record_sound request_set (struct_levels s.sections) (struct_of s.sections) s.brand
 
 handed_out_sound : (k : FieldKind) (v : Value) → Sound v → Sound (handed_out k v)

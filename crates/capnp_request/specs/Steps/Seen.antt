@@ -12,7 +12,7 @@ use Rattle.capnp_request.specs.RequestSet.{request_set}
 use Rattle.capnp_request.specs.declared.handles.RequestList.{RequestList}
 use Rattle.capnp_request.specs.declared.handles.RequestRecord.{RequestRecord}
 
-abbrev pub record_seen : RequestRecord → Record
+unfoldable pub record_seen : RequestRecord → Record
 record_seen s = record_in request_set s.brand s.sections
 
 -- a struct of a brand of the request set

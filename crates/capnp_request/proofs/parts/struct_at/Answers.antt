@@ -2,9 +2,11 @@
 -- A refusal is the field's fault.
 use Rattle.capnp_request.proofs.PartsRead.{there}
 use Rattle.capnp_request.proofs.PointersSeen.{fault_kinds, struct_there}
+use Rattle.capnp_request.specs.Steps.Seen.{record_seen}
 use Rattle.capnp_request.proofs.parts.struct_at.Goals as goal
 
 pub returns-in-Ok-clause-read : goal.returns-in-Ok-clause-read
+unfolding record_seen
 returns-in-Ok-clause-read c = struct_there c.args.brand c.args.index c.args.inner c.sections_at-sections.ensures.record c.in-Ok.found c.in-Ok.ensures
 
 pub returns-in-Err-clause-refused : goal.returns-in-Err-clause-refused
