@@ -22,10 +22,8 @@ impl SchemaSet {
     ///
     /// Refused as [`crate::request::read_request`] and [`SchemaSet::new`], and as the request's message is.
     pub fn from_request(bytes: &[u8]) -> Result<SchemaSet> {
-        let known = crate::capnp_request::request_set::new_set(Global)?;
         let root = Reader::new(Global, bytes)?.get_root().get_struct()?;
-        let request = dynamic_struct::Reader::new(root, known.struct_schema(0));
-        let made = crate::capnp_request::read_request(Global, request, false)?;
+        let made = crate::capnp_request::read_request(Global, root, false)?;
         SchemaSet::new(Global, made.nodes, made.brands, made.enums)
     }
 

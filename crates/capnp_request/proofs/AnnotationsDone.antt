@@ -6,8 +6,8 @@ use Rattle.capnp_schema.specs.Schema.{Annotation, Value}
 use Rattle.capnp_schema.specs.Types.{SchemaType}
 use Rattle.capnp_records.specs.Record as value
 use Rattle.capnp_records.specs.Record.{Record, Value as RecordValue}
-use Rattle.capnp_dynamic_readers.specs.Seen.{list_seen}
-use Rattle.capnp_dynamic_readers.specs.declared.dynamic_list.Reader.{Reader as ListHandle}
+use Rattle.capnp_request.specs.Steps.Seen.{list_seen}
+use Rattle.capnp_request.specs.declared.handles.RequestList.{RequestList}
 use Rattle.capnp_request.specs.Steps.Handles.{values_left}
 use Rattle.capnp_request.proofs.ListsRead.{each_whole}
 use Rattle.capnp_request.specs.Conversion.{annotation_of, annotations_of, declared_in, declared_term, declared_type}
@@ -113,5 +113,5 @@ module _ (nodes : List SchemaNode) (strict : Bool) (inside : List Bound) (s : Na
   pub annotations_unread : (kind : ErrorKind) → value.Fault kind ≡ v → annotations_of nodes strict inside (annotation_terms_in v) s ≡ Err kind
   annotations_unread kind e = ap (λ x. annotations_of nodes strict inside (annotation_terms_in x) s) (sym e)
 
-  pub annotations_start : (l : ListHandle) → list_seen l ≡ v → annotations_of nodes strict inside (annotation_terms_in v) s ≡ each_read (annotation_of nodes strict inside) (each_said 12 annotation_said (values_left l 0)) s
+  pub annotations_start : (l : RequestList) → list_seen l ≡ v → annotations_of nodes strict inside (annotation_terms_in v) s ≡ each_read (annotation_of nodes strict inside) (each_said 12 annotation_said (values_left l 0)) s
   annotations_start l e = ap (λ x. annotations_of nodes strict inside (annotation_terms_in x) s) (sym e) ∙ ap (λ x. (work_said x >>= each_read (annotation_of nodes strict inside)) s) (each_whole 12 annotation_said l)

@@ -1,4 +1,3 @@
-pub mod Always
 pub mod AnnotationsDone
 pub mod BindingsCompared
 pub mod BrandsMade
@@ -17,11 +16,9 @@ pub mod NamesSplit
 pub mod NodesListed
 pub mod NodesRead
 pub mod Numbering
-pub mod NumbersSeen
 pub mod OrderMade
-pub mod PartsSeen
+pub mod PartsRead
 pub mod PlainFields
-pub mod PointersMet
 pub mod PointersSeen
 pub mod ProgressMade
 pub mod Refused
@@ -34,9 +31,9 @@ pub mod ScopesRead
 pub mod SizesTaken
 pub mod Sounds
 pub mod StructsMade
-pub mod Taken
 pub mod TypesDone
 pub mod TypesSeen
+pub mod UntypedSeen
 pub mod ValuesRead
 pub mod Walks
 pub mod WithinMade

@@ -4,12 +4,11 @@ use Rattle.std.proofs.lemmas.List.{append-nil}
 use Rattle.capnp_device.specs.declared.error.ErrorKind.{ErrorKind}
 use Rattle.capnp_records.specs.Record as value
 use Rattle.capnp_records.specs.Record.{Record}
-use Rattle.capnp_dynamic_readers.specs.Reads.{element_seen}
-use Rattle.capnp_dynamic_readers.specs.declared.dynamic_list.Reader.{Reader as ListHandle}
+use Rattle.capnp_request.specs.Steps.Seen.{element_seen}
+use Rattle.capnp_request.specs.declared.handles.RequestList.{RequestList}
 use Rattle.capnp_request.specs.Conversion.{Converted, field_of, fields_of}
 use Rattle.capnp_request.specs.Steps.ConvertedSeen.{seen_converted}
 use Rattle.capnp_request.specs.Steps.Handles.{IsListOf, values_left}
-use Rattle.capnp_request.specs.Parts.{request_struct}
 use Rattle.capnp_request.specs.Reading.{each_said, field_said}
 use Rattle.capnp_request.specs.Steps.StructsSeen.{seen_fields}
 use Rattle.capnp_request.specs.Terms.{FieldTerm, Said, SchemaNode}
@@ -21,7 +20,7 @@ use Rattle.capnp_request.proofs.Works.{ahead, field_more, field_refused, read_mo
 
 -- ---- the same work for each ----
 
-module _ {A B : Type 0} (b : ℕ) (g : Record → A) (f : A → Work B) (l : ListHandle) (is : IsListOf (request_struct b) l) (i : ℕ) (ys : List B) (s : Named) (whole : Result (List B × Named) ErrorKind)
+module _ {A B : Type 0} (b : ℕ) (g : Record → A) (f : A → Work B) (l : RequestList) (is : IsListOf b l) (i : ℕ) (ys : List B) (s : Named) (whole : Result (List B × Named) ErrorKind)
     (left : ahead ys (each_read f (each_said b g (values_left l i)) s) ≡ whole) where
   abbrev walked : List (Said A) → Result (List B × Named) ErrorKind
   walked xs = ahead ys (each_read f xs s)
@@ -41,7 +40,7 @@ module _ {A B : Type 0} (b : ℕ) (g : Record → A) (f : A → Work B) (l : Lis
 
 -- ---- fields, by index ----
 
-module _ (nodes : List SchemaNode) (strict : Bool) (inside : List Bound) (n : ℕ) (l : ListHandle) (is : IsListOf (request_struct 8) l) (i : ℕ) (fs : List ConvertedField) (s : Named) (whole : Result (List Converted × Named) ErrorKind)
+module _ (nodes : List SchemaNode) (strict : Bool) (inside : List Bound) (n : ℕ) (l : RequestList) (is : IsListOf 8 l) (i : ℕ) (fs : List ConvertedField) (s : Named) (whole : Result (List Converted × Named) ErrorKind)
     (left : ahead (seen_fields n 0 fs) (fields_of nodes strict inside n i (each_said 8 field_said (values_left l i)) s) ≡ whole) where
   abbrev walked_fields : List (Said FieldTerm) → Result (List Converted × Named) ErrorKind
   walked_fields xs = ahead (seen_fields n 0 fs) (fields_of nodes strict inside n i xs s)

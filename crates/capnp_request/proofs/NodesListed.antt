@@ -4,35 +4,25 @@ use Rattle.std.proofs.lemmas.List.{append-nil}
 use Rattle.std.specs.HashMap.{HashMap, get}
 use Rattle.std.specs.Option.{option_map}
 use Rattle.capnp_device.specs.declared.error.ErrorKind.{ErrorKind}
-use Rattle.capnp_wire.specs.Standing.{struct_levels, struct_of}
 use Rattle.capnp_wire.specs.declared.struct_reader.StructReader.{StructReader}
-use Rattle.capnp_request.specs.RequestSet.{request_set}
-use Rattle.capnp_schema.specs.Schema.{Schemas}
-use Rattle.capnp_schema.specs.StructHandles.{set_of}
-use Rattle.capnp_records.specs.Reading.{struct_record}
+use Rattle.capnp_request.specs.Steps.Seen.{IsRequestRecord, element_seen, list_seen, record_seen}
 use Rattle.capnp_records.specs.Record as value
-use Rattle.capnp_records.specs.Record.{Left, Record}
-use Rattle.capnp_dynamic_readers.specs.Handles.{reader_of, schema_of}
-use Rattle.capnp_dynamic_readers.specs.Reads.{element_seen}
-use Rattle.capnp_dynamic_readers.specs.Seen.{list_seen, record_seen}
-use Rattle.capnp_dynamic_readers.specs.declared.dynamic_list.Reader.{Reader as ListHandle}
-use Rattle.capnp_dynamic_readers.specs.declared.dynamic_struct.Reader.{Reader as StructHandle}
-use Rattle.capnp_request.specs.Handles.{IsRequestRecord}
+use Rattle.capnp_records.specs.Record.{Record}
+use Rattle.capnp_request.specs.declared.handles.RequestList.{RequestList}
+use Rattle.capnp_request.specs.declared.handles.RequestRecord.{RequestRecord}
 use Rattle.capnp_request.specs.Steps.Handles.{IsListOf, values_left}
 use Rattle.capnp_request.specs.Steps.Nodes.{first_kept, node_record, or_none}
-use Rattle.capnp_request.specs.Parts.{request_struct, request_read_at}
+use Rattle.capnp_request.specs.Parts.{request_read_at}
 use Rattle.capnp_request.specs.Reading.{all_said, both_said, each_said, node_said, nodes_in, whole_list}
 use Rattle.capnp_request.specs.Scopes.{node_named, some_where}
 use Rattle.capnp_request.specs.Terms.{Said, SchemaNode}
+use Rattle.capnp_request.proofs.PartsRead.{same_record}
 use Rattle.capnp_request.proofs.ListsRead.{all_whole, count_of, each_err, each_none, each_ok}
 
 -- the record of a node's sections is that of its reader
-pub section_record : (s : StructHandle) (x : StructReader) → IsRequestRecord 2 s → x ≡ reader_of s → node_record x ≡ record_seen s
+pub section_record : (s : RequestRecord) → IsRequestRecord 2 s → node_record s.sections ≡ record_seen s
 unfolding node_record
-section_record s x is e =
-    ap (λ (y : StructReader). struct_record request_set (Left (struct_levels y)) (struct_of y) 2) e
-    ∙ (ap (λ (z : Schemas). struct_record z (Left (struct_levels (reader_of s))) (struct_of (reader_of s)) 2) (sym is.set)
-    ∙ ap (λ n. struct_record (set_of (schema_of s)) (Left (struct_levels (reader_of s))) (struct_of (reader_of s)) n) (sym is.number))
+section_record s is = same_record s 2 is
 
 -- ---- lists ----
 
@@ -72,13 +62,13 @@ abbrev pub said_by : StructReader → SchemaNode
 said_by s = node_said (node_record s)
 
 module _ {S : Type 0} where
-  pub record ReadSoFar (l : ListHandle) (m : HashMap ℕ StructReader S) (i : ℕ) : Type 0 where
+  pub record ReadSoFar (l : RequestList) (m : HashMap ℕ StructReader S) (i : ℕ) : Type 0 where
     pub nodes : List SchemaNode
     pub whole : all_said (each_said 2 node_said (values_left l 0)) ≡ joined nodes (all_said (each_said 2 node_said (values_left l i)))
     pub count : length nodes ≡ i
     pub by_id : (id : ℕ) → option_map said_by (get nat_eq m id) ≡ node_named nodes id
 
-  module _ (l : ListHandle) (m : HashMap ℕ StructReader S) (i : ℕ) (h : ReadSoFar l m i) (is : IsListOf (request_struct 2) l) (inside : i < count_of l) where
+  module _ (l : RequestList) (m : HashMap ℕ StructReader S) (i : ℕ) (h : ReadSoFar l m i) (is : IsListOf 2 l) (inside : i < count_of l) where
     -- an element that can't be read
     pub node_unread : (kind : ErrorKind) → value.Fault kind ≡ element_seen l i → all_said (each_said 2 node_said (values_left l 0)) ≡ Err kind
     node_unread kind e = h.whole ∙ ap (λ xs. joined h.nodes (all_said xs)) (each_err 2 node_said l i kind is inside e)
@@ -116,12 +106,12 @@ module _ {S : Type 0} where
       }
 
   -- all were read
-  module _ (l : ListHandle) (m : HashMap ℕ StructReader S) (i : ℕ) (h : ReadSoFar l m i) (past : count_of l ≤ i) where
+  module _ (l : RequestList) (m : HashMap ℕ StructReader S) (i : ℕ) (h : ReadSoFar l m i) (past : count_of l ≤ i) where
     pub all_read : all_said (each_said 2 node_said (values_left l 0)) ≡ Ok h.nodes
     all_read = h.whole ∙ (ap (λ xs. joined h.nodes (all_said xs)) (each_none 2 node_said l i past) ∙ ap (λ xs. Ok xs) (append-nil h.nodes))
 
 -- what a request's list of nodes says
-pub nodes_read : (r : Record) (l : ListHandle) → list_seen l ≡ request_read_at 0 0 r → nodes_in r ≡ all_said (each_said 2 node_said (values_left l 0))
+pub nodes_read : (r : Record) (l : RequestList) → list_seen l ≡ request_read_at 0 0 r → nodes_in r ≡ all_said (each_said 2 node_said (values_left l 0))
 nodes_read r l e = ap (whole_list 2 node_said) (sym e) ∙ all_whole 2 node_said l
 
 pub nodes_unread : (r : Record) (kind : ErrorKind) → value.Fault kind ≡ request_read_at 0 0 r → nodes_in r ≡ Err kind

@@ -6,8 +6,8 @@ use Rattle.capnp_device.specs.declared.error.ErrorKind.{ErrorKind}
 use Rattle.capnp_records.specs.Part.{which_of}
 use Rattle.capnp_records.specs.Record as value
 use Rattle.capnp_records.specs.Record.{Record, Value, Values}
-use Rattle.capnp_dynamic_readers.specs.Seen.{list_seen}
-use Rattle.capnp_dynamic_readers.specs.declared.dynamic_list.Reader.{Reader as ListHandle}
+use Rattle.capnp_request.specs.Steps.Seen.{list_seen}
+use Rattle.capnp_request.specs.declared.handles.RequestList.{RequestList}
 use Rattle.capnp_request.proofs.ListsRead.{all_left, count_left, count_of}
 use Rattle.capnp_request.specs.Conversion.{declared_term, kind_declared}
 use Rattle.capnp_request.specs.Parts.{request_read_at}
@@ -162,7 +162,7 @@ undeclared o r there not = ap declared_term (sym there) ∙ go (node_said r).kin
 pub parameters_unread : (r : Record) (kind : ErrorKind) → value.Fault kind ≡ request_read_at 2 11 r → (node_said r).parameters ≡ Err kind
 parameters_unread r kind e = node_parameters r ∙ ap (list_or Err (λ (vs : Values). Ok (list_value_count vs))) (sym e)
 
-pub parameters_read : (r : Record) (l : ListHandle) → list_seen l ≡ request_read_at 2 11 r → (node_said r).parameters ≡ Ok (count_of l)
+pub parameters_read : (r : Record) (l : RequestList) → list_seen l ≡ request_read_at 2 11 r → (node_said r).parameters ≡ Ok (count_of l)
 parameters_read r l e =
     node_parameters r
     ∙ (ap (list_or Err (λ (vs : Values). Ok (list_value_count vs))) (sym e)

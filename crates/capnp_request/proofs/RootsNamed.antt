@@ -7,9 +7,9 @@ use Rattle.std.specs.HashSet.{HashSet}
 use Rattle.capnp_device.specs.declared.error.ErrorKind.{ErrorKind}
 use Rattle.capnp_device.specs.declared.error.ErrorKind.TheVariants.{NodeNotFound}
 use Rattle.capnp_records.specs.Record.{Record, values_from}
-use Rattle.capnp_dynamic_readers.specs.Seen.{list_seen}
-use Rattle.capnp_dynamic_readers.specs.declared.dynamic_list.Reader.{Reader as ListHandle}
-use Rattle.capnp_request.specs.Steps.Handles.{element_in, values_left}
+use Rattle.capnp_request.specs.declared.handles.RequestList.{RequestList}
+use Rattle.capnp_request.specs.Steps.Handles.{values_left}
+use Rattle.capnp_request.specs.Steps.Seen.{element_in, list_seen}
 use Rattle.capnp_request.specs.Steps.Met.{AreMet}
 use Rattle.capnp_request.specs.Order.{at_node, is_node_there, name_files, name_root, name_roots, new_ids}
 use Rattle.capnp_request.specs.Reading.{all_said, both_said, each_said, node_said, whole_list, id_said}
@@ -46,7 +46,7 @@ pub behind_refused : {A : Type 0} (xs : List A) (kind : ErrorKind) (all rest : L
 behind_refused xs kind all rest e = ap (λ r. said_behind xs (all_said r)) e
 
 -- what the structs of a list say, all of them
-pub whole_read : {A : Type 0} (l : ListHandle) (b : ℕ) (f : Record → A) → whole_list b f (list_seen l) ≡ all_said (each_said b f (values_left l 0))
+pub whole_read : {A : Type 0} (l : RequestList) (b : ℕ) (f : Record → A) → whole_list b f (list_seen l) ≡ all_said (each_said b f (values_left l 0))
 unfolding values_left
 whole_read l b f = let e : length_of l ≡ length_of l - 0 = omega arith in ap (λ n. all_said (each_said b f (values_from (element_in l) 0 n))) e
 

@@ -6,13 +6,13 @@ use Rattle.capnp_device.specs.declared.error.ErrorKind.{ErrorKind}
 use Rattle.capnp_schema.specs.Types.{SchemaType, VoidType, BoolType, IntType, UIntType, EnumType, TextType, DataType, StructType, ListType, AnyPointerType}
 use Rattle.capnp_records.specs.Record as value
 use Rattle.capnp_records.specs.Record.{Record, Value}
-use Rattle.capnp_dynamic_readers.specs.Reads.{element_seen}
-use Rattle.capnp_dynamic_readers.specs.declared.dynamic_list.Reader.{Reader as ListHandle}
+use Rattle.capnp_request.specs.Steps.Seen.{element_seen}
+use Rattle.capnp_request.specs.declared.handles.RequestList.{RequestList}
 use Rattle.capnp_request.specs.Steps.Bindings.{seen_marked, with_nothing}
 use Rattle.capnp_request.specs.Conversion.{is_untyped}
 use Rattle.capnp_request.specs.Steps.Handles.{IsListOf, values_left}
 use Rattle.capnp_request.specs.Steps.Meant.{says_or, scope_in}
-use Rattle.capnp_request.specs.Parts.{request_struct, request_read_at}
+use Rattle.capnp_request.specs.Parts.{request_read_at}
 use Rattle.capnp_request.specs.Reading.{binding_said, bindings_said, brand_in, list_or, in_struct, number_in, scope_said, scopes_said, with_scope}
 use Rattle.capnp_request.specs.Scopes.{scopes_of}
 use Rattle.capnp_request.specs.Terms.{BindingTerms, BrandTerm, MoreBindings, NoBindings, Said, SchemaNode, TypeTerm, UnreadBrand, UnreadType}
@@ -33,16 +33,16 @@ module _ (inner : Record → TypeTerm) (v : Value) where
     pub list_fault : (kind : ErrorKind) → value.Fault kind ≡ request_read_at 19 0 r → brand_in inner v ≡ UnreadBrand kind
     list_fault kind e = ap (brand_in inner) (sym there) ∙ ap (list_or UnreadBrand (scopes_said inner)) (sym e)
 
-    pub list_read : (l : ListHandle) (w : Value) → w ≡ value.Elements (values_left l 0) → w ≡ request_read_at 19 0 r → brand_in inner v ≡ scopes_said inner (values_left l 0)
+    pub list_read : (l : RequestList) (w : Value) → w ≡ value.Elements (values_left l 0) → w ≡ request_read_at 19 0 r → brand_in inner v ≡ scopes_said inner (values_left l 0)
     list_read l w whole e = ap (brand_in inner) (sym there) ∙ (ap (list_or UnreadBrand (scopes_said inner)) (sym e) ∙ ap (list_or UnreadBrand (scopes_said inner)) whole)
 
 -- ---- the scopes of a brand ----
 
-module _ (inner : Record → TypeTerm) (l : ListHandle) (i : ℕ) (id : ℕ) where
+module _ (inner : Record → TypeTerm) (l : RequestList) (i : ℕ) (id : ℕ) where
   pub scope_end : count_of l ≤ i → scope_in (scopes_said inner (values_left l i)) id ≡ Ok None
   scope_end h = ap (λ vs. scope_in (scopes_said inner vs) id) (none_left l i h)
 
-  module _ (is : IsListOf (request_struct 20) l) (inside : i < count_of l) where
+  module _ (is : IsListOf 20 l) (inside : i < count_of l) where
     pub scope_fault : (kind : ErrorKind) → value.Fault kind ≡ element_seen l i → scope_in (scopes_said inner (values_left l i)) id ≡ Err kind
     scope_fault kind e = ap (λ vs. scope_in (scopes_said inner vs) id) (one_left l i inside) ∙ ap (λ (v : Value). scope_in (with_scope inner (scopes_said inner (values_left l (i + 1))) v) id) (element_is l 20 i is ∙ sym e)
 
@@ -61,7 +61,7 @@ module _ (inner : Record → TypeTerm) (l : ListHandle) (i : ℕ) (id : ℕ) whe
 
 -- ---- bindings in a row ----
 
-module _ (nodes : List SchemaNode) (strict : Bool) (inside : List Bound) (inner : Record → TypeTerm) (l : ListHandle) where
+module _ (nodes : List SchemaNode) (strict : Bool) (inside : List Bound) (inner : Record → TypeTerm) (l : RequestList) where
   abbrev left : ℕ → BindingTerms
   left i = bindings_said inner (values_left l i)
 
@@ -85,7 +85,7 @@ module _ (nodes : List SchemaNode) (strict : Bool) (inside : List Bound) (inner 
       go (inl past) = bindings_end i (count - i) ys s past
       go (inr inside) = bindings_full i (count - i) ys s (omega (arith, h, inside))
 
-  module _ (i count : ℕ) (ys : List MarkedType) (s : Named) (is : IsListOf (request_struct 21) l) (within : i < count_of l) (below : i < count) where
+  module _ (i count : ℕ) (ys : List MarkedType) (s : Named) (is : IsListOf 21 l) (within : i < count_of l) (below : i < count) where
     step : (k : TypeTerm) → bindings_said inner (values_left l i) ≡ MoreBindings k (left (i + 1)) →
         prefixed ys (binding_types nodes strict inside (left i) (count - i) s) ≡ prefixed ys (work_continued (λ y. binding_types nodes strict inside (left (i + 1)) (count - (i + 1)) >>= (λ zs. work_of (y ∷ zs))) (type_of nodes strict inside k s))
     step k e =

@@ -1,25 +1,21 @@
 -- Faults of what is read of a request are those of reads, and so are the refusals.
-use Rattle.std.proofs.Common.{ℕ, ◌-◌, ◌≡◌, ◌==◌, suc, arith, refl, rules, subst, sym, Bool, true, false, cond, IfErr, Ok, Err, Result}
-use Rattle.capnp_device.specs.declared.error.Error.{Error}
+use Rattle.std.proofs.Common.{ℕ, ◌-◌, ◌≡◌, ◌==◌, suc, arith, refl, rules, subst, Bool, true, false, cond, Ok, Err}
 use Rattle.capnp_device.specs.declared.error.ErrorKind.{ErrorKind}
 use Rattle.capnp_device.specs.declared.error.ErrorKind.TheVariants.{BadPointer, CapabilityPointer, TextNotTerminated, TooDeep, WrongElementSize, WrongPointerKind}
 use Rattle.capnp_wire.specs.Standing.{struct_levels, struct_of}
 use Rattle.capnp_wire.specs.Tree as tree
 use Rattle.capnp_wire.specs.Tree.{StructTree}
+use Rattle.capnp_request.specs.Steps.Seen.{record_seen}
 use Rattle.capnp_request.specs.RequestSet.{request_set}
 use Rattle.capnp_schema.specs.Schema.{FieldKind, Group, Schemas, Slot, default_of, field_at}
-use Rattle.capnp_schema.specs.StructHandles.{number_of, set_of}
 use Rattle.capnp_schema.specs.Types.{StructType}
 use Rattle.capnp_records.specs.Facts.ReadFaults.{IsReadKind, RecordSound, Sound, part_sound, read_of_sound, value_of_sound}
 use Rattle.capnp_records.specs.Part.{part_at}
 use Rattle.capnp_records.specs.Reading.{of_read, record_of, struct_record, values_of}
 use Rattle.capnp_records.specs.Record as value
 use Rattle.capnp_records.specs.Record.{Left, Record, Value}
-use Rattle.capnp_dynamic_readers.specs.Handles.{reader_of, schema_of}
 use Rattle.capnp_dynamic_readers.specs.Reads.{handed_out}
-use Rattle.capnp_dynamic_readers.specs.Seen.{answered_value, record_seen}
-use Rattle.capnp_dynamic_readers.specs.declared.dynamic_struct.Reader.{Reader as StructHandle}
-use Rattle.capnp_dynamic_readers.specs.declared.dynamic_value.Reader.{Reader as DynamicValue}
+use Rattle.capnp_request.specs.declared.handles.RequestRecord.{RequestRecord}
 use Rattle.capnp_request.specs.Parts.{request_read_at}
 use Rattle.capnp_request.specs.Refusals.{IsUnstrict}
 
@@ -36,8 +32,9 @@ record_sound set n s b =
     go true e h = cc
     go false e h = h
 
-pub seen_sound : (s : StructHandle) → RecordSound (record_seen s)
-seen_sound s = record_sound (set_of (schema_of s)) (struct_levels (reader_of s)) (struct_of (reader_of s)) (number_of (schema_of s))
+pub seen_sound : (s : RequestRecord) → RecordSound (record_seen s)
+unfolding record_seen
+seen_sound s = record_sound request_set (struct_levels s.sections) (struct_of s.sections) s.brand
 
 handed_out_sound : (k : FieldKind) (v : Value) → Sound v → Sound (handed_out k v)
 handed_out_sound (Slot offset default) v s = s
@@ -60,8 +57,3 @@ of_reads TextNotTerminated e = refl
 of_reads TooDeep e = refl
 of_reads CapabilityPointer e = refl
 of_reads kind e = cc
-
--- a read is refused with one of these kinds
-pub read_kinds : (r : Result DynamicValue Error) (v : Value) → answered_value r ≡ v → Sound v → IfErr r (λ e. IsUnstrict e.kind)
-read_kinds (Ok a) v e s = tt
-read_kinds (Err error) v e s = of_reads error.kind (subst Sound (sym e) s)

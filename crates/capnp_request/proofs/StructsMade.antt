@@ -6,8 +6,8 @@ use Rattle.capnp_device.specs.declared.error.ErrorKind.{ErrorKind}
 use Rattle.std.specs.Global.{Global}
 use Rattle.capnp_device.specs.declared.error.ErrorKind.TheVariants.{NodeNotFound}
 use Rattle.capnp_records.specs.Record.{Record, Value}
-use Rattle.capnp_dynamic_readers.specs.Seen.{list_seen}
-use Rattle.capnp_dynamic_readers.specs.declared.dynamic_list.Reader.{Reader as ListHandle}
+use Rattle.capnp_request.specs.Steps.Seen.{list_seen}
+use Rattle.capnp_request.specs.declared.handles.RequestList.{RequestList}
 use Rattle.capnp_schema.specs.Schema.{Annotation, Brand, Field, Node, seen_annotation, seen_annotations, seen_brand, seen_field, seen_node}
 use Rattle.capnp_schema.specs.Types.{SchemaType, seen_type}
 use Rattle.capnp_schema.specs.declared.record.AnnotationRecord.{AnnotationRecord}
@@ -94,7 +94,7 @@ unfolding struct_said
 fields_in part v e = ap (list_said 8 field_said) (sym e)
 
 -- and where a list was read
-pub listed_fields : (part : Record) (l : ListHandle) → list_seen l ≡ request_read_at 3 5 part → (struct_said part).fields ≡ Ok (each_said 8 field_said (values_left l 0))
+pub listed_fields : (part : Record) (l : RequestList) → list_seen l ≡ request_read_at 3 5 part → (struct_said part).fields ≡ Ok (each_said 8 field_said (values_left l 0))
 listed_fields part l e = fields_in part (list_seen l) e ∙ said_all l 8 field_said
 
 -- the notes of one field more

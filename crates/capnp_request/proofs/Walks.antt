@@ -4,10 +4,9 @@ use Rattle.std.proofs.lemmas.List.{append-nil}
 use Rattle.capnp_device.specs.declared.error.ErrorKind.{ErrorKind}
 use Rattle.capnp_records.specs.Record as value
 use Rattle.capnp_records.specs.Record.{Record}
-use Rattle.capnp_dynamic_readers.specs.Reads.{element_seen}
-use Rattle.capnp_dynamic_readers.specs.declared.dynamic_list.Reader.{Reader as ListHandle}
+use Rattle.capnp_request.specs.Steps.Seen.{element_seen}
+use Rattle.capnp_request.specs.declared.handles.RequestList.{RequestList}
 use Rattle.capnp_request.specs.Steps.Handles.{IsListOf, values_left}
-use Rattle.capnp_request.specs.Parts.{request_struct}
 use Rattle.capnp_request.specs.Reading.{each_said}
 use Rattle.capnp_request.specs.Terms.{Said}
 use Rattle.capnp_request.specs.Work.{Named, Work, each, each_read, work_of, work_said, ◌>>=◌, work_continued}
@@ -41,17 +40,17 @@ module _ {A B : Type 0} (f : A → Work B) (ys : List B) where
   all_done s = ap (λ (zs : List B). Ok (zs, s)) (append-nil ys)
 
 -- the same over the structs of a list that is read
-module _ {A B : Type 0} (f : A → Work B) (b : ℕ) (g : Record → A) (l : ListHandle) (i : ℕ) (ys : List B) (s : Named) where
-  pub walk_ok : (r : Record) (y : B) (t : Named) → IsListOf (request_struct b) l → i < count_of l → value.Struct r ≡ element_seen l i → f (g r) s ≡ Ok (y, t) →
+module _ {A B : Type 0} (f : A → Work B) (b : ℕ) (g : Record → A) (l : RequestList) (i : ℕ) (ys : List B) (s : Named) where
+  pub walk_ok : (r : Record) (y : B) (t : Named) → IsListOf b l → i < count_of l → value.Struct r ≡ element_seen l i → f (g r) s ≡ Ok (y, t) →
       prefixed ys (each_read f (each_said b g (values_left l i)) s) ≡ prefixed (ys ++ y ∷ []) (each_read f (each_said b g (values_left l (i + 1))) t)
   walk_ok r y t is h e done =
       ap (λ xs. prefixed ys (each_read f xs s)) (each_ok b g l i r is h e) ∙ step_ok (λ (x : Said A). work_said x >>= f) ys (Ok (g r)) (each_said b g (values_left l (i + 1))) y s t done
 
-  pub walk_refused : (r : Record) (kind : ErrorKind) → IsListOf (request_struct b) l → i < count_of l → value.Struct r ≡ element_seen l i → f (g r) s ≡ Err kind → prefixed ys (each_read f (each_said b g (values_left l i)) s) ≡ Err kind
+  pub walk_refused : (r : Record) (kind : ErrorKind) → IsListOf b l → i < count_of l → value.Struct r ≡ element_seen l i → f (g r) s ≡ Err kind → prefixed ys (each_read f (each_said b g (values_left l i)) s) ≡ Err kind
   walk_refused r kind is h e done =
       ap (λ xs. prefixed ys (each_read f xs s)) (each_ok b g l i r is h e) ∙ step_err (λ (x : Said A). work_said x >>= f) ys (Ok (g r)) (each_said b g (values_left l (i + 1))) s kind done
 
-  pub walk_unread : (kind : ErrorKind) → IsListOf (request_struct b) l → i < count_of l → value.Fault kind ≡ element_seen l i → prefixed ys (each_read f (each_said b g (values_left l i)) s) ≡ Err kind
+  pub walk_unread : (kind : ErrorKind) → IsListOf b l → i < count_of l → value.Fault kind ≡ element_seen l i → prefixed ys (each_read f (each_said b g (values_left l i)) s) ≡ Err kind
   walk_unread kind is h e =
       ap (λ xs. prefixed ys (each_read f xs s)) (each_err b g l i kind is h e) ∙ step_err (λ (x : Said A). work_said x >>= f) ys (Err kind) (each_said b g (values_left l (i + 1))) s kind refl
 

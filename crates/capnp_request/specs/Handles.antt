@@ -1,11 +1,9 @@
--- Handles of parts of a request's record.
-use Rattle.std.specs.Prelude.{ℕ, ◌≡◌}
+-- The record of a compiler's request.
+use Rattle.capnp_wire.specs.declared.struct_reader.StructReader.{StructReader}
+use Rattle.capnp_records.specs.Record.{Record}
+use Rattle.capnp_known.specs.Known.{record_in}
 use Rattle.capnp_request.specs.RequestSet.{request_set}
-use Rattle.capnp_schema.specs.StructHandles.{number_of, set_of}
-use Rattle.capnp_dynamic_readers.specs.Handles.{schema_of}
-use Rattle.capnp_dynamic_readers.specs.declared.dynamic_struct.Reader.{Reader as StructHandle}
 
--- a struct of a brand of the request set
-pub record IsRequestRecord (b : ℕ) (s : StructHandle) : Type 0 where
-  pub set : set_of (schema_of s) ≡ request_set
-  pub number : number_of (schema_of s) ≡ b
+-- the record of a struct that is read as a request's: as one of brand 0 of the request set
+abbrev pub root_record : StructReader → Record
+root_record s = record_in request_set 0 s

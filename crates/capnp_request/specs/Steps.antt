@@ -12,6 +12,7 @@ pub mod Numbers
 pub mod Parts
 pub mod PlainFields
 pub mod ProgressSeen
+pub mod Seen
 pub mod Shapes
 pub mod Sizes
 pub mod StructsSeen

@@ -1,19 +1,18 @@
 //! Annotations, as a request says them.
 ghost use Rattle.std.specs.Prelude.{◌≡◌, false, length, IfErr, IfOk};
+ghost use Rattle.capnp_request.specs.Steps.Seen.{IsRequestRecord, record_seen};
 ghost use Rattle.capnp_request.specs.RequestSet.{request_set};
 ghost use Rattle.capnp_schema.specs.Builtin.{zero_word};
 ghost use Rattle.capnp_schema.specs.Schema.{ListValue, field_at, is_member, seen_annotation};
 ghost use Rattle.capnp_schema.specs.Types.{seen_type};
-ghost use Rattle.capnp_dynamic_readers.specs.Seen.{record_seen};
 ghost use Rattle.capnp_request.specs.Steps.Bindings.{bounds, seen_marked};
 ghost use Rattle.capnp_request.specs.Conversion.{annotation_of, annotations_of, declared_type};
 ghost use Rattle.capnp_request.specs.Steps.ConvertedSeen.{typed_annotations};
 ghost use Rattle.capnp_request.specs.Steps.Done.{IsWorkDone, between};
-ghost use Rattle.capnp_request.specs.Handles.{IsRequestRecord};
 ghost use Rattle.capnp_request.specs.Steps.Handles.{IsListOf, IsRequestSlot, values_left};
 ghost use Rattle.capnp_request.specs.Steps.Nodes.{AreNodes, nodes_of};
 ghost use Rattle.capnp_request.specs.Steps.Numbers.{AreNumbered};
-ghost use Rattle.capnp_request.specs.Parts.{request_read_at, request_struct};
+ghost use Rattle.capnp_request.specs.Parts.{request_read_at};
 ghost use Rattle.capnp_request.specs.Steps.Parts.{request_structs};
 ghost use Rattle.capnp_request.specs.Reading.{annotation_said, annotation_terms_in, brand_in, each_said, whole_type};
 ghost use Rattle.capnp_request.specs.Refusals.{IsRefusal};
@@ -21,6 +20,7 @@ ghost use Rattle.capnp_request.specs.Work.{each_read, work_unnoted};
 
 use crate::context::Context;
 use crate::entries::{BoundScope, Entries};
+use crate::handles::{RequestList, RequestRecord};
 use crate::marks::MarkedType;
 use crate::notes::Seen;
 use crate::parts::{element_at, list_at, struct_at, u64_at};
@@ -30,7 +30,6 @@ use crate::places::{
 use crate::types::{BrandPlace, bindings_of, levels_of_types, type_of};
 use crate::values::value_of;
 use capnp_base::introspect::Type;
-use capnp_dynamic_readers::{dynamic_list, dynamic_struct};
 use capnp_schema::record::AnnotationRecord;
 use capnp_wire::error::Result;
 
@@ -39,7 +38,7 @@ fn annotation_type<'a>(
     context: Context<'_, 'a>,
     entries: &mut Entries,
     inside: &[BoundScope],
-    annotation: dynamic_struct::Reader<'a>,
+    annotation: RequestRecord<'a>,
     id: u64,
 ) -> Result<MarkedType>
     requires nodes { AreNodes context.nodes.now }
@@ -79,7 +78,7 @@ fn annotation_of<'a>(
     context: Context<'_, 'a>,
     entries: &mut Entries,
     inside: &[BoundScope],
-    annotation: dynamic_struct::Reader<'a>,
+    annotation: RequestRecord<'a>,
 ) -> Result<(AnnotationRecord, Type)>
     requires nodes { AreNodes context.nodes.now }
     requires numbers { AreNumbered entries.now }
@@ -115,11 +114,11 @@ fn annotations_in<'a>(
     context: Context<'_, 'a>,
     entries: &mut Entries,
     inside: &[BoundScope],
-    listed: dynamic_list::Reader<'a>,
+    listed: RequestList<'a>,
 ) -> Result<(Vec<AnnotationRecord>, Vec<Type>)>
     requires nodes { AreNodes context.nodes.now }
     requires numbers { AreNumbered entries.now }
-    requires elements { IsListOf (request_struct 12) listed }
+    requires elements { IsListOf 12 listed }
     ensures done { IsWorkDone (λ r. typed_annotations r.0.items r.1.items)
         (each_read (annotation_of (nodes_of context.entry.nodes.now) context.entry.strict (bounds inside.now))
         (each_said 12 annotation_said (values_left listed.entry 0)))
@@ -146,7 +145,7 @@ pub(crate) fn annotations_of<'a>(
     context: Context<'_, 'a>,
     entries: &mut Entries,
     inside: &[BoundScope],
-    reader: dynamic_struct::Reader<'a>,
+    reader: RequestRecord<'a>,
     brand: u32,
     index: u16,
     place: u16,

@@ -2,11 +2,11 @@
 ghost use Rattle.std.specs.Prelude.{List, [], ◌∷◌, ◌++◌, suc, ◌≡◌, ◌≢◌, ◌<◌, ◌≤◌, ◌+◌, drop, length, map, string_bytes, IfErr, IfOk, OnOk, Ok, Err};
 ghost use Rattle.capnp_device.specs.declared.error.ErrorKind.TheVariants.{OutOfMemory, TooManyTypes};
 ghost use Rattle.capnp_schema.specs.Schema.{seen_node};
-ghost use Rattle.capnp_dynamic_readers.specs.Seen.{record_seen};
+ghost use Rattle.capnp_request.specs.Steps.Seen.{IsRequestRecord, record_seen};
 ghost use Rattle.capnp_request.specs.Steps.Bindings.{bounds};
 ghost use Rattle.capnp_request.specs.Steps.Done.{IsWorkDone, IsSaid, between};
 ghost use Rattle.capnp_request.specs.Steps.EntriesSeen.{seen_entry};
-ghost use Rattle.capnp_request.specs.Handles.{IsRequestRecord};
+ghost use Rattle.capnp_request.specs.Handles.{root_record};
 ghost use Rattle.capnp_request.specs.Names.{Holder};
 ghost use Rattle.capnp_request.specs.Steps.NamesMade.{AreHolders, texts};
 ghost use Rattle.capnp_request.specs.Steps.Nodes.{AreNodes, nodes_of};
@@ -24,14 +24,16 @@ ghost use Rattle.capnp_request.specs.Work.{Work};
 use crate::context::Context;
 use crate::entries::{BoundScope, Entries, Entry};
 use crate::enums::{EnumPlace, enum_of};
+use crate::handles::RequestRecord;
 use crate::names::{Named, Names, enum_name};
 use crate::notes::Note;
+use crate::places::brands;
 use crate::roots::number_roots;
 use crate::schema_nodes::{SchemaNodes, display_name};
 use crate::scopes::copied_scopes;
 use crate::structs::{MadeStruct, NodePlace, struct_of};
-use capnp_dynamic_readers::dynamic_struct;
 use capnp_schema::record::{BrandRecord, EnumRecord, NodeRecord};
+use capnp_wire::StructReader;
 use capnp_wire::error::{Error, ErrorKind, Result};
 use std::alloc::Global;
 
@@ -78,7 +80,7 @@ fn counted(count: usize) -> Result<u32>
 }
 
 /// The name of an enum, and its node.
-fn named_enum<'a>(context: Context<'_, 'a>, id: u64) -> Result<(String, dynamic_struct::Reader<'a>)>
+fn named_enum<'a>(context: Context<'_, 'a>, id: u64) -> Result<(String, RequestRecord<'a>)>
     requires { AreNodes context.nodes.now }
     ensures said { IsSaid (λ r. (string_bytes r.0, node_said (record_seen r.1)))
         (begin_enum (nodes_of context.entry.nodes.now) id) result }
@@ -329,31 +331,26 @@ fn make_all<'a>(context: Context<'_, 'a>, mut entries: Entries) -> Result<Conver
 /// the kind has, `TooManyTypes` for more than 65,536 entries, for more than 1,024 types that are bound in one entry or a
 /// display name of more than 1,024 bytes, and where `strict` says so `FloatType` and `InterfaceType`. Where several
 /// stand there, any of them may be named.
-///
-/// # Conditions
-///
-/// The reader is of brand 0 of the request set (`IsRequestRecord`).
-pub fn read_request(
-    alloc: Global,
-    reader: dynamic_struct::Reader<'_>,
-    strict: bool,
-) -> Result<Converted>
-    requires { IsRequestRecord 0 reader }
-    ensures read { IfOk result (λ made. and_said (request_said (record_seen reader.entry))
+pub fn read_request(alloc: Global, reader: StructReader<'_>, strict: bool) -> Result<Converted>
+    ensures read { IfOk result (λ made. and_said (request_said (root_record reader.entry))
         (λ r. conversion_of r strict) ≡ Ok (seen_lists made)) }
     ensures refused { IfErr result (λ e. e.kind ≢ OutOfMemory
-        → and_said (request_said (record_seen reader.entry)) (λ r. conversion_of r strict) ≡ Err e.kind) }
+        → and_said (request_said (root_record reader.entry)) (λ r. conversion_of r strict) ≡ Err e.kind) }
     ensures brands { IfOk result (λ made. AreBrandsOf made.nodes.items made.brands.items) }
     ensures kinds { IfErr result (λ e. IsRefusal strict e.kind) }
 {
-    let nodes = SchemaNodes::of_request(alloc, reader)?;
+    let request = RequestRecord {
+        sections: reader,
+        brand: brands::REQUEST,
+    };
+    let nodes = SchemaNodes::of_request(alloc, request)?;
     let context = Context {
         alloc,
         strict,
         nodes: &nodes,
     };
     let mut entries = Entries::new(alloc);
-    number_roots(context, &mut entries, reader)?;
+    number_roots(context, &mut entries, request)?;
     let made = make_all(context, entries)?;
     Ok(made)
 }

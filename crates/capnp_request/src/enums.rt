@@ -2,14 +2,12 @@
 ghost use Rattle.std.specs.Prelude.{◌≡◌, [], length, map, string_bytes, IfErr, IfOk};
 ghost use Rattle.capnp_device.specs.declared.error.ErrorKind.TheVariants.{OutOfMemory};
 ghost use Rattle.capnp_schema.specs.Schema.{seen_enum};
-ghost use Rattle.capnp_dynamic_readers.specs.Seen.{list_seen, record_seen};
+ghost use Rattle.capnp_request.specs.Steps.Seen.{IsRequestRecord, list_seen, record_seen};
 ghost use Rattle.capnp_request.specs.Steps.Done.{IsWorkDone, between};
-ghost use Rattle.capnp_request.specs.Handles.{IsRequestRecord};
 ghost use Rattle.capnp_request.specs.Steps.Handles.{IsListOf, values_left};
 ghost use Rattle.capnp_request.specs.Steps.Nodes.{AreNodes, nodes_of};
 ghost use Rattle.capnp_request.specs.Steps.Numbers.{AreNumbered};
 ghost use Rattle.capnp_request.specs.Order.{enum_made, enumerant_of};
-ghost use Rattle.capnp_request.specs.Parts.{request_struct};
 ghost use Rattle.capnp_request.specs.Reading.{each_said, enumerant_said, node_said};
 ghost use Rattle.capnp_request.specs.Refusals.{IsRefusal};
 ghost use Rattle.capnp_request.specs.Steps.StructsSeen.{enumerant_records, enumerant_types, seen_converted_enumerant, seen_enumerants};
@@ -18,11 +16,11 @@ ghost use Rattle.capnp_request.specs.Work.{each_read};
 use crate::annotations::annotations_of;
 use crate::context::Context;
 use crate::entries::Entries;
+use crate::handles::{RequestList, RequestRecord};
 use crate::parts::{element_at, owned, text_at};
 use crate::places::{ENUMERANT_ANNOTATIONS, ENUMERANT_NAME, NODE_ANNOTATIONS, brands, slots};
 use crate::schema_nodes::enumerants;
 use capnp_base::introspect::Type;
-use capnp_dynamic_readers::{dynamic_list, dynamic_struct};
 use capnp_schema::record::{AnnotationTypes, EnumRecord, EnumerantRecord};
 use capnp_wire::error::Result;
 use std::alloc::Global;
@@ -31,7 +29,7 @@ use std::alloc::Global;
 #[derive(Clone, Copy)]
 pub(crate) struct EnumPlace<'a> {
     pub(crate) id: u64,
-    pub(crate) node: dynamic_struct::Reader<'a>,
+    pub(crate) node: RequestRecord<'a>,
 }
 
 /// An enumerant with the types of its annotations.
@@ -52,7 +50,7 @@ struct EnumerantParts {
 fn enumerant_of<'a>(
     context: Context<'_, 'a>,
     entries: &mut Entries,
-    enumerant: dynamic_struct::Reader<'a>,
+    enumerant: RequestRecord<'a>,
 ) -> Result<ConvertedEnumerant>
     requires nodes { AreNodes context.nodes.now }
     requires numbers { AreNumbered entries.now }
@@ -91,11 +89,11 @@ fn enumerant_of<'a>(
 fn enumerants_of<'a>(
     context: Context<'_, 'a>,
     entries: &mut Entries,
-    listed: dynamic_list::Reader<'a>,
+    listed: RequestList<'a>,
 ) -> Result<Vec<ConvertedEnumerant>>
     requires nodes { AreNodes context.nodes.now }
     requires numbers { AreNumbered entries.now }
-    requires is_list { IsListOf (request_struct 11) listed }
+    requires is_list { IsListOf 11 listed }
     ensures done { IsWorkDone (λ r. seen_enumerants r.items)
         (each_read (enumerant_of (nodes_of context.entry.nodes.now) context.entry.strict)
         (each_said 11 enumerant_said (values_left listed.entry 0)))

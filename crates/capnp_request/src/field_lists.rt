@@ -9,9 +9,8 @@ ghost use Rattle.capnp_schema.specs.Types.{seen_type};
 ghost use Rattle.capnp_records.specs.Part.{which_of};
 ghost use Rattle.capnp_records.specs.Record as value;
 ghost use Rattle.capnp_records.specs.Record.{Record};
-ghost use Rattle.capnp_dynamic_readers.specs.Seen.{record_seen};
+ghost use Rattle.capnp_request.specs.Steps.Seen.{IsRequestRecord, record_seen};
 ghost use Rattle.capnp_request.specs.Conversion.{is_untyped};
-ghost use Rattle.capnp_request.specs.Handles.{IsRequestRecord};
 ghost use Rattle.capnp_request.specs.Parts.{request_read_at};
 ghost use Rattle.capnp_request.specs.Reading.{annotation_terms_in, field_said, type_levels, type_said};
 ghost use Rattle.capnp_request.specs.Refusals.{IsUnstrict};
@@ -21,6 +20,7 @@ ghost use Rattle.capnp_request.specs.Terms.{MemberTerm};
 ghost use Rattle.capnp_request.specs.declared.fields.ConvertedField.{ConvertedField};
 
 use crate::fields::ConvertedField;
+use crate::handles::RequestRecord;
 use crate::marks::plain;
 use crate::notes::Seen;
 use crate::parts::{
@@ -34,7 +34,6 @@ use crate::scopes::is_untyped;
 use crate::types::type_said_by_member;
 use crate::values::value_of;
 use capnp_base::introspect::Type;
-use capnp_dynamic_readers::dynamic_struct;
 use capnp_schema::record::{FieldKind, FieldRecord, ValueRecord};
 use capnp_wire::error::Result;
 use std::alloc::Global;
@@ -70,7 +69,7 @@ pub(crate) fn put_field(lists: &mut FieldLists, field: ConvertedField) -> Result
 
 /// The slot that a field is, none where it is no slot.
 #[inline(always)]
-fn slot_in<'a>(field: dynamic_struct::Reader<'a>) -> Option<dynamic_struct::Reader<'a>>
+fn slot_in<'a>(field: RequestRecord<'a>) -> Option<RequestRecord<'a>>
     requires { IsRequestRecord 8 field }
     ensures record { IfSome result (IsRequestRecord 9) }
     ensures active { IfSome result (λ _. which_of (record_seen field.entry) ≡ Some 3) }
@@ -88,7 +87,7 @@ fn slot_in<'a>(field: dynamic_struct::Reader<'a>) -> Option<dynamic_struct::Read
 
 /// The type of a slot, where its member says all of it.
 #[inline(always)]
-fn plain_type(slot: dynamic_struct::Reader<'_>) -> Option<Type>
+fn plain_type(slot: RequestRecord<'_>) -> Option<Type>
     requires { IsRequestRecord 9 slot }
     ensures said { IfSome result (λ t. (term : Record)
         × (value.Struct term ≡ request_read_at 9 1 (record_seen slot.entry))
@@ -118,7 +117,7 @@ fn plain_type(slot: dynamic_struct::Reader<'_>) -> Option<Type>
 
 /// Whether a field has no annotations. False where they can't be read.
 #[inline(always)]
-fn has_no_annotations(field: dynamic_struct::Reader<'_>) -> bool
+fn has_no_annotations(field: RequestRecord<'_>) -> bool
     requires { IsRequestRecord 8 field }
     ensures { result ≡ true → annotation_terms_in (request_read_at 8 1 (record_seen field.entry)) ≡ Ok [] }
 {
@@ -129,14 +128,14 @@ fn has_no_annotations(field: dynamic_struct::Reader<'_>) -> bool
         slots::FIELD_ANNOTATIONS,
         brands::ANNOTATION,
     ) {
-        Ok(listed) => listed.get_elements().len() == 0,
+        Ok(listed) => listed.len() == 0,
         Err(_) => false,
     }
 }
 
 /// The record of a slot's default.
 #[inline(always)]
-fn default_in<'a>(slot: dynamic_struct::Reader<'a>) -> Result<dynamic_struct::Reader<'a>>
+fn default_in<'a>(slot: RequestRecord<'a>) -> Result<RequestRecord<'a>>
     requires { IsRequestRecord 9 slot }
     ensures read { IfOk result (λ s. value.Struct (record_seen s) ≡ request_read_at 9 2 (record_seen slot.entry)) }
     ensures record { IfOk result (IsRequestRecord 22) }
@@ -183,7 +182,7 @@ fn plain_field(
 pub(crate) fn put_plain(
     alloc: Global,
     lists: &mut FieldLists,
-    field: dynamic_struct::Reader<'_>,
+    field: RequestRecord<'_>,
 ) -> Result<bool>
     requires { IsRequestRecord 8 field }
     ensures put { IfOk result (λ is_put. is_put ≡ true → (made : ConvertedField)

@@ -1,12 +1,11 @@
 //! Fields, as a request says them.
 ghost use Rattle.std.specs.Prelude.{◌≡◌, ◌&&◌, length, Some, IfErr, IfOk};
 ghost use Rattle.capnp_records.specs.Part.{which_of};
-ghost use Rattle.capnp_dynamic_readers.specs.Seen.{record_seen};
+ghost use Rattle.capnp_request.specs.Steps.Seen.{IsRequestRecord, record_seen};
 ghost use Rattle.capnp_request.specs.Steps.Bindings.{bounds, seen_marked};
 ghost use Rattle.capnp_request.specs.Conversion.{field_of, is_untyped, is_untyped_default, kind_of};
 ghost use Rattle.capnp_request.specs.Steps.ConvertedSeen.{seen_converted, seen_converted_kind};
 ghost use Rattle.capnp_request.specs.Steps.Done.{IsWorkDone, between};
-ghost use Rattle.capnp_request.specs.Handles.{IsRequestRecord};
 ghost use Rattle.capnp_request.specs.Steps.Nodes.{AreNodes, nodes_of};
 ghost use Rattle.capnp_request.specs.Steps.Numbers.{AreNumbered};
 ghost use Rattle.capnp_request.specs.Parts.{request_read_at};
@@ -17,6 +16,7 @@ ghost use Rattle.capnp_request.specs.Terms.{UnreadField};
 use crate::annotations::annotations_of;
 use crate::context::Context;
 use crate::entries::{BoundScope, Entries, GroupPlace, entry_type};
+use crate::handles::RequestRecord;
 use crate::marks::{MarkedType, add_mark, plain};
 use crate::notes::Seen;
 use crate::parts::{field_member, group_at, owned, struct_at, text_at, u16_at, u32_at, u64_at};
@@ -28,7 +28,6 @@ use crate::scopes::{copied_scopes, is_untyped};
 use crate::types::slot_type;
 use crate::values::{is_untyped_value, value_of};
 use capnp_base::introspect::Type;
-use capnp_dynamic_readers::dynamic_struct;
 use capnp_schema::record::{FieldKind, FieldRecord};
 use capnp_wire::error::{Error, ErrorKind, Result};
 
@@ -50,7 +49,7 @@ struct ConvertedKind {
 }
 
 /// Whether a default is left out: that of an untyped field, where it is an untyped pointer that isn't null.
-fn is_default_left_out(field_type: MarkedType, value: dynamic_struct::Reader<'_>) -> bool
+fn is_default_left_out(field_type: MarkedType, value: RequestRecord<'_>) -> bool
     requires { IsRequestRecord 22 value }
     ensures { result ≡ (is_untyped (seen_marked field_type).type
         && is_untyped_default (value_said (record_seen value.entry))) }
@@ -67,7 +66,7 @@ fn slot_of<'a>(
     context: Context<'_, 'a>,
     entries: &mut Entries,
     inside: &[BoundScope],
-    field: dynamic_struct::Reader<'a>,
+    field: RequestRecord<'a>,
     place: GroupPlace,
 ) -> Result<ConvertedKind>
     requires nodes { AreNodes context.nodes.now }
@@ -114,7 +113,7 @@ fn group_of<'a>(
     context: Context<'_, 'a>,
     entries: &mut Entries,
     inside: &[BoundScope],
-    field: dynamic_struct::Reader<'a>,
+    field: RequestRecord<'a>,
     place: GroupPlace,
 ) -> Result<ConvertedKind>
     requires nodes { AreNodes context.nodes.now }
@@ -147,7 +146,7 @@ fn kind_of<'a>(
     context: Context<'_, 'a>,
     entries: &mut Entries,
     inside: &[BoundScope],
-    field: dynamic_struct::Reader<'a>,
+    field: RequestRecord<'a>,
     place: GroupPlace,
 ) -> Result<ConvertedKind>
     requires nodes { AreNodes context.nodes.now }
@@ -175,7 +174,7 @@ pub(crate) fn field_of<'a>(
     context: Context<'_, 'a>,
     entries: &mut Entries,
     inside: &[BoundScope],
-    field: dynamic_struct::Reader<'a>,
+    field: RequestRecord<'a>,
     place: GroupPlace,
 ) -> Result<ConvertedField>
     requires nodes { AreNodes context.nodes.now }

@@ -11,6 +11,7 @@ mod entries;
 mod enums;
 mod field_lists;
 mod fields;
+mod handles;
 mod marks;
 mod met;
 mod names;

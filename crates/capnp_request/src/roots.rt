@@ -1,20 +1,18 @@
 //! The structs with which a conversion begins: those of the requested files.
 ghost use Rattle.std.specs.Prelude.{ℕ, List, [], ◌∷◌, ◌≡◌, ◌++◌, false, slice_get, IfErr, IfOk, OnOk};
 ghost use Rattle.capnp_device.specs.declared.error.ErrorKind.TheVariants.{OutOfMemory};
+ghost use Rattle.capnp_request.specs.Steps.Seen.{IsRequestRecord, record_seen};
 ghost use Rattle.capnp_request.specs.RequestSet.{request_set};
-ghost use Rattle.capnp_schema.specs.Accepted.{NamesEntries};
 ghost use Rattle.capnp_schema.specs.Builtin.{zero_word};
 ghost use Rattle.capnp_schema.specs.Schema.{ListValue, UIntValue, field_at, is_member};
 ghost use Rattle.capnp_schema.specs.Types.{UIntType};
-ghost use Rattle.capnp_dynamic_readers.specs.Seen.{record_seen};
 ghost use Rattle.capnp_request.specs.Steps.Done.{IsWorkDone, IsSaid, between};
-ghost use Rattle.capnp_request.specs.Handles.{IsRequestRecord};
 ghost use Rattle.capnp_request.specs.Steps.Handles.{IsListOf, IsRequestSlot, values_left};
 ghost use Rattle.capnp_request.specs.Steps.Met.{AreMet};
 ghost use Rattle.capnp_request.specs.Steps.Nodes.{AreNodes, nodes_of};
 ghost use Rattle.capnp_request.specs.Steps.Numbers.{AreNumbered};
 ghost use Rattle.capnp_request.specs.Order.{name_files, name_root, new_ids};
-ghost use Rattle.capnp_request.specs.Parts.{request_struct, request_read_at};
+ghost use Rattle.capnp_request.specs.Parts.{request_read_at};
 ghost use Rattle.capnp_request.specs.Steps.Parts.{request_structs};
 ghost use Rattle.capnp_request.specs.Reading.{all_said, each_said, id_said, node_said, whole_list};
 ghost use Rattle.capnp_request.specs.Refusals.{IsUnstrict};
@@ -22,11 +20,11 @@ ghost use Rattle.capnp_request.specs.Types.{is_root};
 
 use crate::context::Context;
 use crate::entries::{BoundNode, Entries};
+use crate::handles::RequestRecord;
 use crate::parts::{element_at, list_at, u64_at};
 use crate::places::{LISTED_ID, NODE_NESTED_NODES, REQUEST_FILES, brands, slots};
 use crate::schema_nodes::{SchemaNodes, is_struct_not_group};
 use crate::scopes::unbound;
-use capnp_dynamic_readers::dynamic_struct;
 use capnp_wire::error::Result;
 use std::alloc::Global;
 use std::collections::HashSet;
@@ -34,7 +32,7 @@ use std::collections::HashSet;
 /// The ids of the records that a field lists.
 fn listed_ids(
     alloc: Global,
-    reader: dynamic_struct::Reader<'_>,
+    reader: RequestRecord<'_>,
     brand: u32,
     index: u16,
     place: u16,
@@ -42,7 +40,6 @@ fn listed_ids(
 ) -> Result<Vec<u64>>
     requires record { IsRequestRecord brand reader }
     requires field { IsRequestSlot brand index (request_structs inner) place (ListValue zero_word) }
-    requires named { NamesEntries request_set (request_struct inner) }
     requires non_union { is_member (field_at request_set brand index).field ≡ false }
     requires id { IsRequestSlot inner 0 (UIntType 8) 0 (UIntValue 8 0) }
     requires id_non_union { is_member (field_at request_set inner 0).field ≡ false }
@@ -115,7 +112,7 @@ fn number_root<'a>(
     context: Context<'_, 'a>,
     entries: &mut Entries,
     id: u64,
-    node: dynamic_struct::Reader<'a>,
+    node: RequestRecord<'a>,
 ) -> Result<()>
     requires nodes { AreNodes context.nodes.now }
     requires numbers { AreNumbered entries.now }
@@ -138,7 +135,7 @@ fn number_root<'a>(
 pub(crate) fn number_roots<'a>(
     context: Context<'_, 'a>,
     entries: &mut Entries,
-    request: dynamic_struct::Reader<'a>,
+    request: RequestRecord<'a>,
 ) -> Result<()>
     requires nodes { AreNodes context.nodes.now }
     requires numbers { AreNumbered entries.now }

@@ -3,13 +3,11 @@ ghost use Rattle.std.specs.HashMap.{get};
 ghost use Rattle.std.specs.Prelude.{ℕ, [], ◌++◌, nat_eq, OnOk, ◌≡◌, ◌≢◌, IfErr, IfOk, IfSome, IsTrue, Some, None, Ok, Err, false, length, map, option_map, true};
 ghost use Rattle.capnp_device.specs.declared.error.ErrorKind.TheVariants.{NodeNotFound, OutOfMemory};
 ghost use Rattle.capnp_records.specs.Part.{which_of};
-ghost use Rattle.capnp_dynamic_readers.specs.Seen.{list_seen, record_seen};
+ghost use Rattle.capnp_request.specs.Steps.Seen.{IsRequestRecord, list_seen, record_seen};
 ghost use Rattle.capnp_request.specs.Steps.Bindings.{with_nothing};
 ghost use Rattle.capnp_request.specs.Conversion.{declared_term};
-ghost use Rattle.capnp_request.specs.Handles.{IsRequestRecord};
 ghost use Rattle.capnp_request.specs.Steps.Handles.{IsListOf};
 ghost use Rattle.capnp_request.specs.Steps.Nodes.{AreNodes, first_kept, node_record, nodes_of};
-ghost use Rattle.capnp_request.specs.Parts.{request_struct};
 ghost use Rattle.capnp_request.specs.Reading.{declaration_said, enumerant_said, list_said, node_said, nodes_in, struct_said};
 ghost use Rattle.capnp_request.specs.Refusals.{IsUnstrict};
 ghost use Rattle.capnp_request.specs.Scopes.{node_named, scopes_of, with_scope};
@@ -17,14 +15,13 @@ ghost use Rattle.capnp_request.specs.Terms.{EnumNode, StructNode};
 ghost use Rattle.capnp_request.specs.Types.{is_enum, is_of_kind, is_root, is_struct_kind};
 ghost use Rattle.capnp_request.specs.Steps.Types.{is_annotation};
 
+use crate::handles::{RequestList, RequestRecord};
 use crate::met::Way;
-use crate::parts::{active_member, bool_at, element_at, group_at, list_at, text_at, u64_at};
+use crate::parts::{bool_at, element_at, group_at, list_at, node_member, text_at, u64_at};
 use crate::places::{
     ENUM_ENUMERANTS, NODE_ANNOTATION, NODE_DISPLAY_NAME, NODE_ENUM, NODE_ID, NODE_PARAMETERS,
     NODE_SCOPE_ID, NODE_STRUCT, REQUEST_NODES, STRUCT_IS_GROUP, brands, slots,
 };
-use capnp_dynamic_readers::{dynamic_list, dynamic_struct};
-use capnp_schema::set::SchemaSet;
 use capnp_wire::StructReader;
 use capnp_wire::error::{Error, ErrorKind, Result};
 use std::alloc::Global;
@@ -33,8 +30,7 @@ use std::collections::HashMap;
 /// The schema nodes of a request, by their ids. Where two have one id, the first counts.
 #[derive(Drop)]
 pub(crate) struct SchemaNodes<'a> {
-    request: dynamic_struct::Reader<'a>,
-    schemas: &'a SchemaSet,
+    request: RequestRecord<'a>,
     count: u32,
     by_id: HashMap<u64, StructReader<'a>>,
 }
@@ -92,12 +88,20 @@ fn keep_first<'a>(
     Ok(())
 }
 
+/// The node of these sections.
+fn node_of(sections: StructReader<'_>) -> RequestRecord<'_>
+    ensures record { IsRequestRecord 2 result }
+    ensures read { record_seen result ≡ node_record sections.entry }
+{
+    RequestRecord {
+        sections,
+        brand: brands::NODE,
+    }
+}
+
 impl<'a> SchemaNodes<'a> {
     /// The nodes of a request.
-    pub(crate) fn of_request(
-        alloc: Global,
-        request: dynamic_struct::Reader<'a>,
-    ) -> Result<SchemaNodes<'a>>
+    pub(crate) fn of_request(alloc: Global, request: RequestRecord<'a>) -> Result<SchemaNodes<'a>>
         requires { IsRequestRecord 0 request }
         ensures nodes { IfOk result AreNodes }
         ensures read { IfOk result (λ nodes. nodes_in (record_seen request.entry) ≡ Ok (nodes_of nodes)) }
@@ -115,13 +119,11 @@ impl<'a> SchemaNodes<'a> {
         for index in 0..listed.len() {
             let reader = element_at(listed, index, brands::NODE)?;
             let id = u64_at(reader, brands::NODE, NODE_ID, slots::NODE_ID);
-            keep_first(&mut by_id, id, reader.get_sections())?;
+            keep_first(&mut by_id, id, reader.sections)?;
         }
-        let schemas = request.get_schema().get_set();
         let count = listed.len();
         Ok(SchemaNodes {
             request,
-            schemas,
             count,
             by_id,
         })
@@ -135,29 +137,20 @@ impl<'a> SchemaNodes<'a> {
         self.count
     }
 
-    /// The node of these sections.
-    fn node_of(&self, sections: StructReader<'a>) -> dynamic_struct::Reader<'a>
-        requires { AreNodes self.now }
-        ensures record { IsRequestRecord 2 result }
-        ensures read { record_seen result ≡ node_record sections.entry }
-    {
-        dynamic_struct::Reader::new(sections, self.schemas.struct_schema(brands::NODE))
-    }
-
     /// The node of an id; none where no node has it.
-    pub(crate) fn get(&self, id: u64) -> Option<dynamic_struct::Reader<'a>>
+    pub(crate) fn get(&self, id: u64) -> Option<RequestRecord<'a>>
         requires { AreNodes self.now }
         ensures record { IfSome result (IsRequestRecord 2) }
         ensures read { option_map (λ node. node_said (record_seen node)) result ≡ node_named (nodes_of self.now) id }
     {
         match self.by_id.get(&id) {
-            Some(sections) => Some(self.node_of(*sections)),
+            Some(sections) => Some(node_of(*sections)),
             None => None,
         }
     }
 
     /// The node of an id. Refused with `NodeNotFound` where no node has it.
-    pub(crate) fn found(&self, id: u64) -> Result<dynamic_struct::Reader<'a>>
+    pub(crate) fn found(&self, id: u64) -> Result<RequestRecord<'a>>
         requires { AreNodes self.now }
         ensures record { IfOk result (IsRequestRecord 2) }
         ensures read { IfOk result (λ node. node_named (nodes_of self.now) id ≡ Some (node_said (record_seen node))) }
@@ -204,7 +197,7 @@ impl<'a> SchemaNodes<'a> {
 
     /// The declaration of an annotation by its id. Refused with `NodeNotFound` where no node has the id, or one that is
     /// no annotation.
-    pub(crate) fn declaration(&self, id: u64) -> Result<dynamic_struct::Reader<'a>>
+    pub(crate) fn declaration(&self, id: u64) -> Result<RequestRecord<'a>>
         requires { AreNodes self.now }
         ensures record { IfOk result (IsRequestRecord 5) }
         ensures read { IfOk result (λ d. declared_term (node_named (nodes_of self.now) id)
@@ -256,45 +249,43 @@ impl<'a> SchemaNodes<'a> {
 }
 
 /// Whether a node is a struct.
-fn is_struct_node(node: dynamic_struct::Reader<'_>) -> bool
+fn is_struct_node(node: RequestRecord<'_>) -> bool
     requires { IsRequestRecord 2 node }
     ensures kind { is_struct_kind (node_said (record_seen node.entry)).kind ≡ result }
     ensures active { IsTrue result → which_of (record_seen node.entry) ≡ Some 6 }
 {
-    match active_member(node) {
+    match node_member(node) {
         Some(member) => member == NODE_STRUCT,
         None => false,
     }
 }
 
 /// Whether a node is an enum.
-fn is_enum_node(node: dynamic_struct::Reader<'_>) -> bool
+fn is_enum_node(node: RequestRecord<'_>) -> bool
     requires { IsRequestRecord 2 node }
     ensures kind { is_enum (node_said (record_seen node.entry)).kind ≡ result }
     ensures active { IsTrue result → which_of (record_seen node.entry) ≡ Some 7 }
 {
-    match active_member(node) {
+    match node_member(node) {
         Some(member) => member == NODE_ENUM,
         None => false,
     }
 }
 
 /// Whether a node is an annotation.
-fn is_annotation_node(node: dynamic_struct::Reader<'_>) -> bool
+fn is_annotation_node(node: RequestRecord<'_>) -> bool
     requires { IsRequestRecord 2 node }
     ensures kind { is_annotation (node_said (record_seen node.entry)).kind ≡ result }
     ensures active { IsTrue result → which_of (record_seen node.entry) ≡ Some 10 }
 {
-    match active_member(node) {
+    match node_member(node) {
         Some(member) => member == NODE_ANNOTATION,
         None => false,
     }
 }
 
 /// The part of a struct's node that only structs have. Refused with `NodeNotFound` where the node is no struct.
-pub(crate) fn struct_part<'a>(
-    node: dynamic_struct::Reader<'a>,
-) -> Result<dynamic_struct::Reader<'a>>
+pub(crate) fn struct_part<'a>(node: RequestRecord<'a>) -> Result<RequestRecord<'a>>
     requires { IsRequestRecord 2 node }
     ensures record { IfOk result (IsRequestRecord 3) }
     ensures read { IfOk result (λ s. (node_said (record_seen node.entry)).kind
@@ -310,9 +301,9 @@ pub(crate) fn struct_part<'a>(
 }
 
 /// The enumerants of an enum's node. Refused with `NodeNotFound` where the node is no enum.
-pub(crate) fn enumerants<'a>(node: dynamic_struct::Reader<'a>) -> Result<dynamic_list::Reader<'a>>
+pub(crate) fn enumerants<'a>(node: RequestRecord<'a>) -> Result<RequestList<'a>>
     requires { IsRequestRecord 2 node }
-    ensures elements { IfOk result (IsListOf (request_struct 11)) }
+    ensures elements { IfOk result (IsListOf 11) }
     ensures read { IfOk result (λ l. (node_said (record_seen node.entry)).kind
         ≡ EnumNode (list_said 11 enumerant_said (list_seen l))) }
     ensures missing { IfErr result (λ e. is_enum (node_said (record_seen node.entry)).kind ≡ false
@@ -336,7 +327,7 @@ pub(crate) fn enumerants<'a>(node: dynamic_struct::Reader<'a>) -> Result<dynamic
 }
 
 /// Whether a node is a struct that is no group.
-pub(crate) fn is_struct_not_group(node: dynamic_struct::Reader<'_>) -> bool
+pub(crate) fn is_struct_not_group(node: RequestRecord<'_>) -> bool
     requires { IsRequestRecord 2 node }
     ensures { is_root (node_said (record_seen node.entry)).kind ≡ result }
 {
@@ -352,7 +343,7 @@ pub(crate) fn is_struct_not_group(node: dynamic_struct::Reader<'_>) -> bool
 }
 
 /// The display name of a node, as it stands.
-pub(crate) fn display_name<'a>(node: dynamic_struct::Reader<'a>) -> Result<&'a [u8]>
+pub(crate) fn display_name<'a>(node: RequestRecord<'a>) -> Result<&'a [u8]>
     requires { IsRequestRecord 2 node }
     ensures read { IfOk result (λ x. (node_said (record_seen node.entry)).display_name ≡ Ok x.now) }
     ensures refused { IfErr result (λ e. (node_said (record_seen node.entry)).display_name ≡ Err e.kind) }

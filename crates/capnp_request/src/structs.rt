@@ -2,11 +2,10 @@
 ghost use Rattle.std.specs.Prelude.{List, [], ◌∷◌, ◌≡◌, ◌≢◌, ◌++◌, map, string_bytes, IfErr, IfOk, Ok, Err};
 ghost use Rattle.capnp_device.specs.declared.error.ErrorKind.TheVariants.{OutOfMemory};
 ghost use Rattle.capnp_schema.specs.Types.{seen_type};
-ghost use Rattle.capnp_dynamic_readers.specs.Seen.{record_seen};
+ghost use Rattle.capnp_request.specs.Steps.Seen.{IsRequestRecord, record_seen};
 ghost use Rattle.capnp_request.specs.Steps.Bindings.{bounds, flags};
 ghost use Rattle.capnp_request.specs.Conversion.{field_of, notes_of};
 ghost use Rattle.capnp_request.specs.Steps.Done.{IsWorkDone, between};
-ghost use Rattle.capnp_request.specs.Handles.{IsRequestRecord};
 ghost use Rattle.capnp_request.specs.Steps.Nodes.{AreNodes, nodes_of};
 ghost use Rattle.capnp_request.specs.Steps.Numbers.{AreNumbered};
 ghost use Rattle.capnp_request.specs.Order.{all_fields, struct_made};
@@ -25,14 +24,14 @@ use crate::context::Context;
 use crate::entries::{BoundScope, Entries, GroupPlace};
 use crate::field_lists::{FieldLists, put_field, put_plain};
 use crate::fields::field_of;
+use crate::handles::RequestRecord;
 use crate::notes::{Note, Seen, StandIn};
-use crate::parts::{bool_at, list_at, record_at, u16_at, u32_at};
+use crate::parts::{bool_at, element_at, list_at, u16_at, u32_at};
 use crate::places::{
     NODE_ANNOTATIONS, STRUCT_DATA_WORDS, STRUCT_DISCRIMINANT_OFFSET, STRUCT_DISCRIMINANTS,
     STRUCT_FIELDS, STRUCT_IS_GROUP, STRUCT_POINTERS, brands, slots,
 };
 use crate::schema_nodes::struct_part;
-use capnp_dynamic_readers::dynamic_struct;
 use capnp_schema::record::{AnnotationTypes, BrandRecord, FieldRecord, NodeRecord, StructRecord};
 use capnp_wire::error::Result;
 use std::alloc::Global;
@@ -98,7 +97,7 @@ fn add_field<'a>(
     inside: &[BoundScope],
     number: u32,
     index: u32,
-    field: dynamic_struct::Reader<'a>,
+    field: RequestRecord<'a>,
     made: &mut MadeFields,
 ) -> Result<()>
     requires nodes { AreNodes context.nodes.now }
@@ -135,7 +134,7 @@ fn fields_of<'a>(
     entries: &mut Entries,
     inside: &[BoundScope],
     number: u32,
-    part: dynamic_struct::Reader<'a>,
+    part: RequestRecord<'a>,
 ) -> Result<MadeFields>
     requires nodes { AreNodes context.nodes.now }
     requires numbers { AreNumbered entries.now }
@@ -169,16 +168,15 @@ fn fields_of<'a>(
         },
         notes: Vec::new(context.alloc),
     };
-    let schema = part.get_schema().get_set().struct_schema(brands::FIELD);
     for index in 0..listed.len() {
-        let field = record_at(listed, index, brands::FIELD, schema)?;
+        let field = element_at(listed, index, brands::FIELD)?;
         add_field(context, entries, inside, number, index, field, &mut made)?;
     }
     Ok(made)
 }
 
 /// What a struct has beside its name and annotations, with these fields.
-fn body_of(part: dynamic_struct::Reader<'_>, fields: Vec<FieldRecord>) -> StructRecord
+fn body_of(part: RequestRecord<'_>, fields: Vec<FieldRecord>) -> StructRecord
     requires { IsRequestRecord 3 part }
     ensures parts { HasParts (struct_said (record_seen part.entry)) result }
     ensures fields { result.fields ≡ fields }
@@ -234,7 +232,7 @@ pub(crate) struct MadeStruct {
 pub(crate) struct NodePlace<'a> {
     pub(crate) number: u32,
     pub(crate) id: u64,
-    pub(crate) node: dynamic_struct::Reader<'a>,
+    pub(crate) node: RequestRecord<'a>,
 }
 
 /// The node and the brand of an entry of that name, inside its own scopes.

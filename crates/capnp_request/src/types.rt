@@ -2,17 +2,16 @@
 ghost use Rattle.std.specs.Prelude.{ℕ, List, Bool, cond, ◌≡◌, ◌≢◌, ◌<◌, ◌≤◌, ◌-◌, ◌^◌, false, map, option_map, [], IfErr, IfOk, IfSome, Ok, Err, Some};
 ghost use Rattle.capnp_device.specs.declared.error.ErrorKind.TheVariants.{OutOfMemory, TooManyTypes};
 ghost use Rattle.capnp_base.specs.Types.{type_from};
+ghost use Rattle.capnp_request.specs.Steps.Seen.{IsRequestRecord, record_seen};
 ghost use Rattle.capnp_request.specs.RequestSet.{request_set};
 ghost use Rattle.capnp_schema.specs.Builtin.{zero_word};
 ghost use Rattle.capnp_schema.specs.Schema.{StructValue, field_at, is_member};
 ghost use Rattle.capnp_schema.specs.Types.{ListType, seen_type};
 ghost use Rattle.capnp_records.specs.Part.{which_of};
 ghost use Rattle.capnp_records.specs.Record.{Record};
-ghost use Rattle.capnp_dynamic_readers.specs.Seen.{record_seen};
 ghost use Rattle.capnp_request.specs.Steps.Bindings.{bounds, flags, seen_marked, with_nothing};
 ghost use Rattle.capnp_request.specs.Conversion.{is_untyped};
 ghost use Rattle.capnp_request.specs.Steps.Done.{IsWorkDone, IsSaid, so_far};
-ghost use Rattle.capnp_request.specs.Handles.{IsRequestRecord};
 ghost use Rattle.capnp_request.specs.Steps.Handles.{IsListOf, IsRequestSlot, values_left};
 ghost use Rattle.capnp_request.specs.Steps.Meant.{IsSaidByMemberOr, float_type, scope_in};
 ghost use Rattle.capnp_request.specs.Steps.Nodes.{AreNodes, nodes_of};
@@ -28,10 +27,12 @@ ghost use Rattle.capnp_request.specs.Steps.Work.{Numbered, named_with};
 
 use crate::context::Context;
 use crate::entries::{BoundNode, BoundScope, Entries, entry_type, enum_type};
+use crate::handles::{RequestList, RequestRecord};
 use crate::marks::{MarkedType, float, plain};
 use crate::notes::Seen;
 use crate::parts::{
-    active_member, element_at, group_at, list_at, struct_at, type_member, u16_at, u64_at,
+    binding_member, element_at, group_at, list_at, scope_member, struct_at, type_member, u16_at,
+    u64_at, untyped_member,
 };
 use crate::places::{
     BINDING_TYPE, BINDING_UNBOUND, BRAND_SCOPES, LIST_ELEMENT, NAMED_ID, PARAMETER_INDEX,
@@ -41,14 +42,13 @@ use crate::places::{
 use crate::schema_nodes::GenericScope;
 use crate::scopes::{bound_scope, bound_to, is_untyped, scope_of, untyped};
 use capnp_base::introspect::{Type, TypeVariant};
-use capnp_dynamic_readers::{dynamic_list, dynamic_struct};
 use capnp_wire::error::{Error, ErrorKind, Result};
 use std::alloc::Global;
 
 /// Where a brand stands: a field of a record of a brand of the request set.
 #[derive(Clone, Copy)]
 pub(crate) struct BrandPlace<'a> {
-    pub(crate) reader: dynamic_struct::Reader<'a>,
+    pub(crate) reader: RequestRecord<'a>,
     pub(crate) holder: u32,
     pub(crate) index: u16,
     pub(crate) pointer: u16,
@@ -126,7 +126,7 @@ fn interface_type(strict: bool, seen: &mut Seen) -> Result<MarkedType>
 }
 
 /// An untyped pointer, or what is bound to the parameter that it is.
-fn untyped_or_bound(inside: &[BoundScope], term: dynamic_struct::Reader<'_>) -> Result<MarkedType>
+fn untyped_or_bound(inside: &[BoundScope], term: RequestRecord<'_>) -> Result<MarkedType>
     requires record { IsRequestRecord 13 term }
     requires active { which_of (record_seen term) ≡ Some 18 }
     ensures done { (nodes : List SchemaNode) → (strict : Bool) → (s : Named)
@@ -135,7 +135,7 @@ fn untyped_or_bound(inside: &[BoundScope], term: dynamic_struct::Reader<'_>) -> 
     ensures kinds { IfErr result (λ e. IsUnstrict e.kind) }
 {
     let pointer = group_at(term, brands::TYPE, TYPE_UNTYPED, brands::TYPE_UNTYPED);
-    let Some(member) = active_member(pointer) else {
+    let Some(member) = untyped_member(pointer) else {
         return Err(Error::from(ErrorKind::UnknownKind));
     };
     match member {
@@ -201,7 +201,7 @@ fn marked_list(element: MarkedType) -> Result<MarkedType>
 fn enum_type_of<'a>(
     context: Context<'_, 'a>,
     entries: &mut Entries,
-    term: dynamic_struct::Reader<'a>,
+    term: RequestRecord<'a>,
 ) -> Result<MarkedType>
     requires nodes { AreNodes context.nodes.now }
     requires numbers { AreNumbered entries.now }
@@ -226,7 +226,7 @@ fn list_type_of<'a>(
     context: Context<'_, 'a>,
     entries: &mut Entries,
     inside: &[BoundScope],
-    term: dynamic_struct::Reader<'a>,
+    term: RequestRecord<'a>,
     seen: &mut Seen,
     depth: u32,
 ) -> Result<MarkedType>
@@ -258,7 +258,7 @@ fn struct_type_of<'a>(
     context: Context<'_, 'a>,
     entries: &mut Entries,
     inside: &[BoundScope],
-    term: dynamic_struct::Reader<'a>,
+    term: RequestRecord<'a>,
     seen: &mut Seen,
     depth: u32,
 ) -> Result<MarkedType>
@@ -295,7 +295,7 @@ pub(crate) fn type_of<'a>(
     context: Context<'_, 'a>,
     entries: &mut Entries,
     inside: &[BoundScope],
-    term: dynamic_struct::Reader<'a>,
+    term: RequestRecord<'a>,
     seen: &mut Seen,
     depth: u32,
 ) -> Result<MarkedType>
@@ -335,7 +335,7 @@ pub(crate) fn slot_type<'a>(
     context: Context<'_, 'a>,
     entries: &mut Entries,
     inside: &[BoundScope],
-    term: dynamic_struct::Reader<'a>,
+    term: RequestRecord<'a>,
     seen: &mut Seen,
 ) -> Result<MarkedType>
     requires nodes { AreNodes context.nodes.now }
@@ -357,11 +357,11 @@ pub(crate) fn slot_type<'a>(
 }
 
 /// The scopes of the brand at a place.
-fn brand_list<'a>(place: BrandPlace<'a>) -> Result<dynamic_list::Reader<'a>>
+fn brand_list<'a>(place: BrandPlace<'a>) -> Result<RequestList<'a>>
     requires record { IsRequestRecord place.holder place.reader }
     requires field { IsRequestSlot place.holder place.index (request_struct 19) place.pointer (StructValue zero_word) }
     requires non_union { is_member (field_at request_set place.holder place.index).field ≡ false }
-    ensures elements { IfOk result (IsListOf (request_struct 20)) }
+    ensures elements { IfOk result (IsListOf 20) }
     ensures read { (inner : Record → TypeTerm)
         → IfOk result (λ l. brand_in inner (request_read_at place.entry.holder place.entry.index
         (record_seen place.entry.reader)) ≡ scopes_said inner (values_left l 0)) }
@@ -434,13 +434,13 @@ fn bound_scopes<'a>(
     entries: &mut Entries,
     inside: &[BoundScope],
     generic: &[GenericScope],
-    said: dynamic_list::Reader<'a>,
+    said: RequestList<'a>,
     seen: &mut Seen,
     depth: u32,
 ) -> Result<Vec<BoundScope>>
     requires nodes { AreNodes context.nodes.now }
     requires numbers { AreNumbered entries.now }
-    requires is_list { IsListOf (request_struct 20) said }
+    requires is_list { IsListOf 20 said }
     ensures done { IsWorkDone (λ scopes. bounds scopes.items)
         (each (bind_scope (brand_types (nodes_of context.entry.nodes.now) context.entry.strict (bounds inside.now)
         (scopes_said (type_said depth) (values_left said.entry 0)))) (map with_nothing generic.now))
@@ -457,11 +457,8 @@ fn bound_scopes<'a>(
 }
 
 /// The first scope of an id in a brand.
-fn brand_scope<'a>(
-    said: dynamic_list::Reader<'a>,
-    id: u64,
-) -> Result<Option<dynamic_struct::Reader<'a>>>
-    requires { IsListOf (request_struct 20) said }
+fn brand_scope<'a>(said: RequestList<'a>, id: u64) -> Result<Option<RequestRecord<'a>>>
+    requires { IsListOf 20 said }
     ensures record { IfOk result (λ found. IfSome found (IsRequestRecord 20)) }
     ensures said { (inner : Record → TypeTerm)
         → IsSaid (option_map (λ scope. scope_said inner (record_seen scope)))
@@ -497,13 +494,13 @@ fn scope_types<'a>(
     entries: &mut Entries,
     inside: &[BoundScope],
     scope: GenericScope,
-    said: dynamic_list::Reader<'a>,
+    said: RequestList<'a>,
     seen: &mut Seen,
     depth: u32,
 ) -> Result<Vec<MarkedType>>
     requires nodes { AreNodes context.nodes.now }
     requires numbers { AreNumbered entries.now }
-    requires is_list { IsListOf (request_struct 20) said }
+    requires is_list { IsListOf 20 said }
     ensures done { IsWorkDone (λ types. map seen_marked types.items)
         (brand_types (nodes_of context.entry.nodes.now) context.entry.strict (bounds inside.now)
         (scopes_said (type_said depth) (values_left said.entry 0)) (with_nothing scope))
@@ -525,7 +522,7 @@ fn said_types<'a>(
     entries: &mut Entries,
     inside: &[BoundScope],
     scope: GenericScope,
-    own: dynamic_struct::Reader<'a>,
+    own: RequestRecord<'a>,
     seen: &mut Seen,
     depth: u32,
 ) -> Result<Vec<MarkedType>>
@@ -539,7 +536,7 @@ fn said_types<'a>(
     ensures numbers { IfOk result (λ _. AreNumbered entries.new) }
     ensures kinds { IfErr result (λ e. IsRefusal context.entry.strict e.kind) }
 {
-    let Some(member) = active_member(own) else {
+    let Some(member) = scope_member(own) else {
         return Err(Error::from(ErrorKind::UnknownKind));
     };
     match member {
@@ -568,13 +565,13 @@ fn bound_types<'a>(
     entries: &mut Entries,
     inside: &[BoundScope],
     parameters: u32,
-    bindings: dynamic_list::Reader<'a>,
+    bindings: RequestList<'a>,
     seen: &mut Seen,
     depth: u32,
 ) -> Result<Vec<MarkedType>>
     requires nodes { AreNodes context.nodes.now }
     requires numbers { AreNumbered entries.now }
-    requires is_list { IsListOf (request_struct 21) bindings }
+    requires is_list { IsListOf 21 bindings }
     ensures done { IsWorkDone (λ types. map seen_marked types.items)
         (binding_types (nodes_of context.entry.nodes.now) context.entry.strict (bounds inside.now)
         (bindings_said (type_said depth) (values_left bindings.entry 0)) parameters)
@@ -597,7 +594,7 @@ fn binding_type<'a>(
     context: Context<'_, 'a>,
     entries: &mut Entries,
     inside: &[BoundScope],
-    binding: dynamic_struct::Reader<'a>,
+    binding: RequestRecord<'a>,
     seen: &mut Seen,
     depth: u32,
 ) -> Result<MarkedType>
@@ -610,7 +607,7 @@ fn binding_type<'a>(
     ensures numbers { IfOk result (λ _. AreNumbered entries.new) }
     ensures kinds { IfErr result (λ e. IsRefusal context.entry.strict e.kind) }
 {
-    let Some(member) = active_member(binding) else {
+    let Some(member) = binding_member(binding) else {
         return Err(Error::from(ErrorKind::UnknownKind));
     };
     match member {

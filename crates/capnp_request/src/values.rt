@@ -8,14 +8,14 @@ ghost use Rattle.capnp_arena.specs.Message.{IsMessage, message_tree};
 ghost use Rattle.capnp_base.specs.AnyPointer.{pointer_of};
 ghost use Rattle.capnp_schema.specs.Schema.{seen_value};
 ghost use Rattle.capnp_records.specs.Part.{which_of};
-ghost use Rattle.capnp_dynamic_readers.specs.Seen.{record_seen};
-ghost use Rattle.capnp_request.specs.Handles.{IsRequestRecord};
+ghost use Rattle.capnp_request.specs.Steps.Seen.{IsRequestRecord, record_seen};
 ghost use Rattle.capnp_request.specs.Steps.ValueMembers.{IsDataMember};
 ghost use Rattle.capnp_request.specs.Conversion.{is_untyped_default};
 ghost use Rattle.capnp_request.specs.Reading.{value_said};
 ghost use Rattle.capnp_request.specs.Refusals.{IsUnstrict};
 ghost use Rattle.capnp_request.specs.Values.{value_stated, words_or_fault};
 
+use crate::handles::RequestRecord;
 use crate::parts::{
     bool_at, data_at, i8_at, i16_at, i32_at, i64_at, text_at, u8_at, u16_at, u32_at, u64_at,
     untyped_at, value_member,
@@ -23,7 +23,6 @@ use crate::parts::{
 use crate::places::{VALUE_UNTYPED, brands};
 use capnp_arena::message::Builder;
 use capnp_base::any_pointer;
-use capnp_dynamic_readers::dynamic_struct;
 use capnp_schema::record::ValueRecord;
 use capnp_wire::error::{Error, ErrorKind, Result};
 use std::alloc::Global;
@@ -84,7 +83,7 @@ fn copied(alloc: Global, bytes: &[u8]) -> Result<Vec<u8>>
 
 /// The value of a member that stands in the data section. Floats are their bits. Refused with `UnknownKind` for a
 /// member that is none.
-fn data_value(reader: dynamic_struct::Reader<'_>, member: u16) -> Result<ValueRecord>
+fn data_value(reader: RequestRecord<'_>, member: u16) -> Result<ValueRecord>
     requires is_record { IsRequestRecord 22 reader }
     requires active { which_of (record_seen reader) ≡ Some member }
     requires data { IsDataMember member }
@@ -112,11 +111,7 @@ fn data_value(reader: dynamic_struct::Reader<'_>, member: u16) -> Result<ValueRe
 }
 
 /// The value of the active member.
-fn member_value(
-    alloc: Global,
-    reader: dynamic_struct::Reader<'_>,
-    member: u16,
-) -> Result<ValueRecord>
+fn member_value(alloc: Global, reader: RequestRecord<'_>, member: u16) -> Result<ValueRecord>
     requires is_record { IsRequestRecord 22 reader }
     requires active { which_of (record_seen reader) ≡ Some member }
     ensures read { IfOk result (λ v. value_stated (value_said (record_seen reader.entry)) ≡ Ok (seen_value v)) }
@@ -136,12 +131,12 @@ fn member_value(
             Ok(ValueRecord::Data(bytes))
         }
         14 => {
-            let list = untyped_at(reader, brands::VALUE, 14);
+            let list = untyped_at(reader, brands::VALUE, 14, 0);
             let elements = words_of(alloc, list)?;
             Ok(ValueRecord::List(elements))
         }
         16 => {
-            let inner = untyped_at(reader, brands::VALUE, 16);
+            let inner = untyped_at(reader, brands::VALUE, 16, 0);
             let words = words_of(alloc, inner)?;
             Ok(ValueRecord::Struct(words))
         }
@@ -150,7 +145,7 @@ fn member_value(
             Ok(ValueRecord::AnyPointer(nothing))
         }
         18 => {
-            let _untyped = untyped_at(reader, brands::VALUE, 18);
+            let _untyped = untyped_at(reader, brands::VALUE, 18, 0);
             let null = copied(alloc, &[0; 8])?;
             Ok(ValueRecord::AnyPointer(null))
         }
@@ -162,7 +157,7 @@ fn member_value(
 ///
 /// A struct or list is its words. An interface and an untyped value are a null untyped pointer, whatever stands there.
 /// Refused with `UnknownKind` for another kind, as the parts that are read, and with `OutOfMemory`.
-pub(crate) fn value_of(alloc: Global, reader: dynamic_struct::Reader<'_>) -> Result<ValueRecord>
+pub(crate) fn value_of(alloc: Global, reader: RequestRecord<'_>) -> Result<ValueRecord>
     requires { IsRequestRecord 22 reader }
     ensures read { IfOk result (λ v. value_stated (value_said (record_seen reader.entry)) ≡ Ok (seen_value v)) }
     ensures refused { IfErr result (λ e. e.kind ≢ OutOfMemory
@@ -176,14 +171,14 @@ pub(crate) fn value_of(alloc: Global, reader: dynamic_struct::Reader<'_>) -> Res
 }
 
 /// Whether a value is an untyped pointer that isn't null.
-pub(crate) fn is_untyped_value(reader: dynamic_struct::Reader<'_>) -> bool
+pub(crate) fn is_untyped_value(reader: RequestRecord<'_>) -> bool
     requires { IsRequestRecord 22 reader }
     ensures { is_untyped_default (value_said (record_seen reader.entry)) ≡ result }
 {
     match value_member(reader) {
         Some(member) => {
             if member == VALUE_UNTYPED {
-                return !untyped_at(reader, brands::VALUE, VALUE_UNTYPED).is_null();
+                return !untyped_at(reader, brands::VALUE, VALUE_UNTYPED, 0).is_null();
             }
             false
         }

@@ -2,8 +2,7 @@
 ghost use Rattle.std.specs.Prelude.{List, ◌∷◌, suc, ◌≡◌, ◌≢◌, ◌≤◌, ◌+◌, ◌⊎◌, length, IfErr, IfOk, Ok, Err};
 ghost use Rattle.capnp_device.specs.declared.error.ErrorKind.TheVariants.{OutOfMemory, TooLarge};
 ghost use Rattle.capnp_schema.specs.Schema.{seen_schemas};
-ghost use Rattle.capnp_dynamic_readers.specs.Seen.{record_seen};
-ghost use Rattle.capnp_request.specs.Handles.{IsRequestRecord};
+ghost use Rattle.capnp_request.specs.Handles.{root_record};
 ghost use Rattle.capnp_request.specs.Names.{Holder};
 ghost use Rattle.capnp_request.specs.Order.{Made, and_said, conversion_of, make_all, nothing_made, result_of};
 ghost use Rattle.capnp_request.specs.ProgressSeen.{seen_lists};
@@ -23,10 +22,12 @@ ghost use Rattle.capnp_request.specs.Work.{Work};
 use crate::context::Context;
 use crate::conversion::{Converted, MORE_STEPS, Progress};
 use crate::entries::Entries;
+use crate::handles::RequestRecord;
+use crate::places::brands;
 use crate::roots::number_roots;
 use crate::schema_nodes::SchemaNodes;
 use crate::sizes::take_next;
-use capnp_dynamic_readers::dynamic_struct;
+use capnp_wire::StructReader;
 use capnp_wire::error::{Error, ErrorKind, Result};
 use std::alloc::Global;
 
@@ -108,35 +109,34 @@ fn make_all_within<'a>(
 /// the next struct or enum is made. A small request may stand for a large set, since each binding of a generic struct is
 /// an entry with copies of its names and values. An entry that is named and not yet made has at most 1,024 bound types,
 /// and the lists have a field for each that a field names.
-///
-/// # Conditions
-///
-/// The reader is of brand 0 of the request set (`IsRequestRecord`).
 pub fn read_request_within(
     alloc: Global,
-    reader: dynamic_struct::Reader<'_>,
+    reader: StructReader<'_>,
     strict: bool,
     limit: u64,
 ) -> Result<Converted>
-    requires { IsRequestRecord 0 reader }
-    ensures read { IfOk result (λ made. and_said (request_said (record_seen reader.entry))
+    ensures read { IfOk result (λ made. and_said (request_said (root_record reader.entry))
         (λ r. conversion_of r strict) ≡ Ok (seen_lists made)) }
     ensures within { IfOk result (λ made. lists_bytes (seen_schemas made.nodes.items made.brands.items made.enums.items)
         ≤ limit) }
     ensures refused { IfErr result (λ e. e.kind ≢ OutOfMemory
-        → (and_said (request_said (record_seen reader.entry)) (λ r. conversion_of r strict) ≡ Err e.kind)
-        ⊎ ((e.kind ≡ TooLarge) × IsLargeConversion limit (request_said (record_seen reader.entry)) strict)) }
+        → (and_said (request_said (root_record reader.entry)) (λ r. conversion_of r strict) ≡ Err e.kind)
+        ⊎ ((e.kind ≡ TooLarge) × IsLargeConversion limit (request_said (root_record reader.entry)) strict)) }
     ensures brands { IfOk result (λ made. AreBrandsOf made.nodes.items made.brands.items) }
     ensures kinds { IfErr result (λ e. IsRefusal strict e.kind) }
 {
-    let nodes = SchemaNodes::of_request(alloc, reader)?;
+    let request = RequestRecord {
+        sections: reader,
+        brand: brands::REQUEST,
+    };
+    let nodes = SchemaNodes::of_request(alloc, request)?;
     let context = Context {
         alloc,
         strict,
         nodes: &nodes,
     };
     let mut entries = Entries::new(alloc);
-    number_roots(context, &mut entries, reader)?;
+    number_roots(context, &mut entries, request)?;
     let made = make_all_within(context, entries, limit)?;
     Ok(made)
 }

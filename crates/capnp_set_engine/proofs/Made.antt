@@ -9,15 +9,11 @@ use Rattle.capnp_wire.specs.declared.struct_reader.StructReader.{StructReader}
 use Rattle.capnp_schema.specs.Accepted.{IsAccepted}
 use Rattle.capnp_request.specs.RequestSet.{request_set}
 use Rattle.capnp_schema.specs.Schema.{Schemas}
-use Rattle.capnp_schema.specs.StructHandles.{number_of}
 use Rattle.capnp_records.specs.Reading.{struct_record}
 use Rattle.capnp_records.specs.Record.{Left, Record}
-use Rattle.capnp_dynamic_readers.specs.Handles.{reader_of, schema_of}
-use Rattle.capnp_dynamic_readers.specs.Seen.{record_seen}
-use Rattle.capnp_dynamic_readers.specs.declared.dynamic_struct.Reader.{Reader as StructHandle}
 use Rattle.capnp_wire.specs.Tree.{StructTree}
 use Rattle.capnp_request.specs.Conversion.{Note}
-use Rattle.capnp_request.specs.Handles.{IsRequestRecord}
+use Rattle.capnp_request.specs.Handles.{root_record}
 use Rattle.capnp_request.specs.Order.{and_said, conversion_of}
 use Rattle.capnp_request.specs.Reading.{request_said}
 use Rattle.capnp_request.specs.Refusals.{IsRefusal}
@@ -44,14 +40,11 @@ pub each_refusal_of : {T E : Type 0} {P O Q : E → Type 0} (r : Result T E) →
 each_refusal_of (Ok x) f h g = tt
 each_refusal_of (Err e) f h g = f e h g
 
--- a handle of brand 0 on a struct that has 63 levels left stands on the record of a request's root
-pub request_seen : (h : StructHandle) (r : StructReader) (n : ℕ) → reader_of h ≡ r → IsRequestRecord 0 h → struct_levels r + 1 ≡ n → n ≡ 64 → record_seen h ≡ request_record (struct_of r)
-request_seen h r n reader is levels levels_are =
+-- the record of a struct that has 63 levels left is that of a request's root
+pub request_seen : (r : StructReader) (n : ℕ) → struct_levels r + 1 ≡ n → n ≡ 64 → root_record r ≡ request_record (struct_of r)
+request_seen r n levels levels_are =
     let left : struct_levels r ≡ 63 = omega (arith, levels, levels_are) in
-    ap (λ (z : Schemas). struct_record z (Left (struct_levels (reader_of h))) (struct_of (reader_of h)) (number_of (schema_of h))) is.set
-    ∙ (ap (λ b. struct_record request_set (Left (struct_levels (reader_of h))) (struct_of (reader_of h)) b) is.number
-    ∙ (ap (λ (x : StructReader). struct_record request_set (Left (struct_levels x)) (struct_of x) 0) reader
-    ∙ ap (λ m. struct_record request_set (Left m) (struct_of r) 0) left))
+    ap (λ m. struct_record request_set (Left m) (struct_of r) 0) left
 
 -- what is said of that record is what the request stands for
 pub conversion_is : (strict : Bool) (r : Record) (root : StructTree) (x : Said (Schemas × List Note)) → r ≡ request_record root → and_said (request_said r) (λ t. conversion_of t strict) ≡ x → conversion_from strict root ≡ x

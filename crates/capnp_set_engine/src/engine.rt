@@ -8,8 +8,7 @@ ghost use Rattle.capnp_show_engine.specs.Show.{IsOfMessage};
 ghost use Rattle.capnp_set_engine.specs.Convert.{HasFewBytes, HasManyBytes, HasNoSet, IsConvertedFrom, IsCutShort, IsConvertedMessage, IsRefused, IsSetOf, IsRequestUnread, IsUnwritten, IsWritten, set_in};
 
 use crate::notes::get_lines;
-use capnp_dynamic_readers::dynamic_struct;
-use capnp_request::{Converted, read_request, read_request_within, request_set};
+use capnp_request::{Converted, read_request, read_request_within};
 use capnp_schema::set::SchemaSet;
 use capnp_set_writer::set_writer::write_set;
 use capnp_show_engine::command::tell;
@@ -34,11 +33,9 @@ fn read_conversion(alloc: Global, bytes: &[u8], strict: bool) -> Result<Converte
     ensures refused { IfErr result (λ e. e.kind ≢ OutOfMemory → IsRequestUnread strict bytes.now e.kind) }
     ensures of_no_device { IfErr result (λ e. IsOfRead e.kind) }
 {
-    let schemas = request_set::new_set(alloc)?;
     let reader = Reader::new(alloc, bytes)?;
     let root = reader.get_root().get_struct()?;
-    let record = dynamic_struct::Reader::new(root, schemas.struct_schema(0));
-    read_request(alloc, record, strict)
+    read_request(alloc, root, strict)
 }
 
 /// What the request in these bytes is converted to, where its lists have at most so many bytes.
@@ -54,11 +51,9 @@ fn read_conversion_within(
         ⊎ ((e.kind ≡ TooLarge) × HasManyBytes limit strict bytes.now)) }
     ensures of_no_device { IfErr result (λ e. IsOfRead e.kind) }
 {
-    let set = request_set::new_set(alloc)?;
     let reader = Reader::new(alloc, bytes)?;
     let root = reader.get_root().get_struct()?;
-    let record = dynamic_struct::Reader::new(root, set.struct_schema(0));
-    read_request_within(alloc, record, strict, limit)
+    read_request_within(alloc, root, strict, limit)
 }
 
 /// The message of the checked set of a conversion, and the lines of its notes.

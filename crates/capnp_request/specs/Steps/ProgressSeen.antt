@@ -1,7 +1,7 @@
 -- What the code has made so far, as the definition sees it: steps of the code.
 use Rattle.std.specs.Prelude.{List, Bool, true, false, map, string_bytes}
 use Rattle.capnp_schema.specs.Schema.{seen_brand, seen_enum, seen_node}
-use Rattle.capnp_dynamic_readers.specs.Seen.{record_seen}
+use Rattle.capnp_request.specs.Steps.Seen.{record_seen}
 use Rattle.capnp_request.specs.Names.{Holder}
 use Rattle.capnp_request.specs.Steps.NamesMade.{texts}
 use Rattle.capnp_request.specs.Order.{Begun, Made}

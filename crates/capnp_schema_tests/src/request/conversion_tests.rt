@@ -17,14 +17,9 @@ use std::test::Fail;
 
 /// What a request is converted to.
 fn converted(alloc: Global, bytes: &[u8], strict: bool) -> Result<Converted> {
-    let schemas = request_set::new_set(alloc)?;
     let message = Reader::new(alloc, bytes)?;
     let root = message.get_root().get_struct()?;
-    read_request(
-        alloc,
-        dynamic_struct::Reader::new(root, schemas.struct_schema(0)),
-        strict,
-    )
+    read_request(alloc, root, strict)
 }
 
 /// The names of all structs, each with a semicolon behind it.

@@ -1,7 +1,7 @@
 -- The value is read and meant first, and then the type is found. The refusal of either is the annotation's.
 use Rattle.capnp_schema.specs.Schema.{seen_annotation, seen_value}
 use Rattle.capnp_schema.specs.Types.{seen_type}
-use Rattle.capnp_dynamic_readers.specs.Seen.{record_seen}
+use Rattle.capnp_request.specs.Steps.Seen.{record_seen}
 use Rattle.capnp_request.specs.Steps.Bindings.{bounds, seen_marked}
 use Rattle.capnp_request.specs.Steps.Done.{between}
 use Rattle.capnp_request.specs.Steps.Nodes.{nodes_of}

@@ -1,7 +1,7 @@
 -- The declaration, the scopes bound by the brand, and the declared type inside them come in this order.
 -- The whole brand is that of 64 levels, and nothing is noted.
 use Rattle.std.proofs.Common.{◌∙◌, ap, refl, sym, Err, List}
-use Rattle.capnp_dynamic_readers.specs.Seen.{record_seen}
+use Rattle.capnp_request.specs.Steps.Seen.{record_seen}
 use Rattle.capnp_request.specs.Steps.Bindings.{bounds, flags, seen_marked}
 use Rattle.capnp_request.specs.Steps.Done.{between, so_far}
 use Rattle.capnp_request.specs.Steps.Nodes.{nodes_of}

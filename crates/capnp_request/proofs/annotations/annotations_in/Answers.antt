@@ -4,7 +4,7 @@ use Rattle.std.proofs.Common.{rules, length, ◌+◌, ◌≡◌, ◌∙◌, arit
 use Rattle.capnp_schema.specs.Schema.{Annotation}
 use Rattle.capnp_schema.specs.Types.{SchemaType}
 use Rattle.capnp_schema.specs.declared.record.AnnotationRecord.{AnnotationRecord}
-use Rattle.capnp_dynamic_readers.specs.Seen.{record_seen}
+use Rattle.capnp_request.specs.Steps.Seen.{record_seen}
 use Rattle.capnp_request.specs.Steps.Bindings.{bounds}
 use Rattle.capnp_request.specs.Steps.Done.{between}
 use Rattle.capnp_request.specs.Steps.Nodes.{nodes_of}

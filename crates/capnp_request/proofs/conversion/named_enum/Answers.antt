@@ -1,7 +1,7 @@
 -- The node of the id, its display name and the name without file are found in this order.
 -- What fails first is why the enum can't begin.
 use Rattle.std.proofs.lemmas.Result.{err_from_is_err_and}
-use Rattle.capnp_dynamic_readers.specs.Seen.{record_seen}
+use Rattle.capnp_request.specs.Steps.Seen.{record_seen}
 use Rattle.capnp_request.specs.Steps.Nodes.{nodes_of}
 use Rattle.capnp_request.specs.Reading.{node_said}
 use Rattle.capnp_request.proofs.OrderMade.{enum_begun, enum_missing, enum_unnamed, enum_unread}

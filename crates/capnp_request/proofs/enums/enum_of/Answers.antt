@@ -2,8 +2,8 @@
 -- Records and annotation types of the enumerants stand in two lists of one length.
 use Rattle.std.proofs.Common.{[], ◌∙◌, ap, map, refl, string_bytes, sym, Ok}
 use Rattle.std.proofs.lemmas.Result.{err_from_is_err_and}
-use Rattle.capnp_dynamic_readers.specs.Seen.{record_seen}
 use Rattle.capnp_schema.specs.Schema.{seen_enumerant}
+use Rattle.capnp_request.specs.Steps.Seen.{record_seen}
 use Rattle.capnp_request.specs.Conversion.{annotations_of}
 use Rattle.capnp_request.specs.Steps.Done.{between}
 use Rattle.capnp_request.specs.Steps.Nodes.{nodes_of}

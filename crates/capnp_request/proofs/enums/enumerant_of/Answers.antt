@@ -1,7 +1,7 @@
 -- The name is read and copied, and then the annotations are made with nothing bound. Each refusal on this way is the enumerant's.
 use Rattle.std.proofs.Common.{[], ◌∙◌, ap, refl}
 use Rattle.std.proofs.lemmas.Result.{err_from_is_err_and}
-use Rattle.capnp_dynamic_readers.specs.Seen.{record_seen}
+use Rattle.capnp_request.specs.Steps.Seen.{record_seen}
 use Rattle.capnp_request.specs.Conversion.{annotations_of}
 use Rattle.capnp_request.specs.Steps.Done.{between}
 use Rattle.capnp_request.specs.Steps.Nodes.{nodes_of}

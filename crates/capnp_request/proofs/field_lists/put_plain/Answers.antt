@@ -2,7 +2,7 @@
 use Rattle.std.proofs.Common.{◌≡◌, ◌∙◌, ap, rules, sym, string_bytes, true, Ok}
 use Rattle.capnp_schema.specs.Schema.{seen_value}
 use Rattle.capnp_schema.specs.Types.{seen_type}
-use Rattle.capnp_dynamic_readers.specs.Seen.{record_seen}
+use Rattle.capnp_request.specs.Steps.Seen.{record_seen}
 use Rattle.capnp_request.specs.Steps.Work.{named_with}
 use Rattle.capnp_request.specs.Work.{nothing_seen}
 use Rattle.capnp_request.proofs.PlainFields.{IsReadField, IsReadSlot, plain_done}

@@ -1,7 +1,7 @@
 -- Name, kind and annotations come in this order, and each refusal is the field's.
 -- The mark of floats goes behind the annotations, refused for memory alone.
 use Rattle.std.proofs.Common.{string_bytes, ◌∙◌}
-use Rattle.capnp_dynamic_readers.specs.Seen.{record_seen}
+use Rattle.capnp_request.specs.Steps.Seen.{record_seen}
 use Rattle.capnp_request.specs.Steps.Bindings.{bounds}
 use Rattle.capnp_request.specs.Steps.Done.{between}
 use Rattle.capnp_request.specs.Steps.Nodes.{nodes_of}

@@ -1,7 +1,7 @@
 -- The id has to be a struct's. Then the group gets an entry of its own with the scopes of its parent, and nothing is noted of it.
 use Rattle.std.proofs.Common.{◌∙◌, ap, sym, Err, Ok, List}
 use Rattle.capnp_schema.specs.Schema.{Group}
-use Rattle.capnp_dynamic_readers.specs.Seen.{record_seen}
+use Rattle.capnp_request.specs.Steps.Seen.{record_seen}
 use Rattle.capnp_request.specs.Steps.Bindings.{bounds, seen_marked}
 use Rattle.capnp_request.specs.Steps.Done.{between}
 use Rattle.capnp_request.specs.Steps.Nodes.{nodes_of}

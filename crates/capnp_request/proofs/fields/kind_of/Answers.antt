@@ -1,6 +1,6 @@
 -- The active member decides: 3 is a slot and 4 a group, each meant by its own record; none or another is an unknown kind.
 use Rattle.std.proofs.Common.{◌∙◌, arith, ap, sym, Err}
-use Rattle.capnp_dynamic_readers.specs.Seen.{record_seen}
+use Rattle.capnp_request.specs.Steps.Seen.{record_seen}
 use Rattle.capnp_request.specs.Steps.Bindings.{bounds}
 use Rattle.capnp_request.specs.Steps.Done.{between}
 use Rattle.capnp_request.specs.Steps.Nodes.{nodes_of}

@@ -2,7 +2,7 @@
 -- A default is noted as left out where the type is untyped and the value is not null.
 use Rattle.std.proofs.Common.{◌∙◌, ap, refl, sym}
 use Rattle.capnp_schema.specs.Schema.{seen_value}
-use Rattle.capnp_dynamic_readers.specs.Seen.{record_seen}
+use Rattle.capnp_request.specs.Steps.Seen.{record_seen}
 use Rattle.capnp_request.specs.Steps.Bindings.{bounds, flags, seen_marked}
 use Rattle.capnp_request.specs.Steps.Done.{between}
 use Rattle.capnp_request.specs.Steps.Nodes.{nodes_of}

@@ -1,12 +1,7 @@
--- The number at the discriminant decides: 0 is the slot, 1 the group, and any other is no member.
-use Rattle.capnp_request.proofs.MembersSeen.{is_group, is_neither, is_slot}
+use Rattle.std.proofs.Common.{◌∙◌, ap}
+use Rattle.capnp_records.specs.Part.{which_of}
+use Rattle.capnp_request.proofs.PartsRead.{same_record}
 use Rattle.capnp_request.proofs.parts.field_member.Goals as goal
 
-pub returns-then-number-eq0 : goal.returns-then-number-eq0
-returns-then-number-eq0 c = is_slot c.args.reader c.get_sections-sections.result c.get_sections-sections.ensures _ c.requires c.load_pair-number.ensures c.if-number-eq0.true
-
-pub returns-then-number-eq1 : goal.returns-then-number-eq1
-returns-then-number-eq1 c = is_group c.args.reader c.get_sections-sections.result c.get_sections-sections.ensures _ c.requires c.load_pair-number.ensures c.if-number-eq1.true
-
 pub returns : goal.returns
-returns c = is_neither c.args.reader c.get_sections-sections.result c.get_sections-sections.ensures _ c.requires c.load_pair-number.ensures c.if-number-eq0.false c.if-number-eq1.false
+returns c = c.member_at.ensures ∙ ap which_of (same_record c.args.reader 8 c.requires)

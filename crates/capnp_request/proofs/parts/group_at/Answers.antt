@@ -1,12 +1,8 @@
--- The same struct under the group's brand is what the record holds at the field.
-use Rattle.std.proofs.Common.{ap, sym, ◌∙◌, rules}
-use Rattle.capnp_records.specs.Record as value
-use Rattle.capnp_request.specs.Handles.{IsRequestRecord}
-use Rattle.capnp_request.proofs.FieldsSeen.{group_seen, record_in}
+-- A struct under the group's brand is what the record holds at the field.
+use Rattle.capnp_request.proofs.FieldsSeen.{group_seen}
+use Rattle.capnp_request.specs.Steps.Seen.{record_seen}
 use Rattle.capnp_request.proofs.parts.group_at.Goals as goal
 
 pub returns-clause-read : goal.returns-clause-read
-returns-clause-read c =
-    let is : IsRequestRecord c.args.inner c.new.result = search rules in
-    sym (ap (λ r. value.Struct r) (record_in c.new.result c.get_sections.result c.args.inner is (sym c.new.ensures.reader)))
-    ∙ group_seen c.args.reader c.args.brand c.args.index c.requires.record c.requires.active c.get_sections.result c.get_sections.ensures c.args.inner c.requires.brand c.requires.field c.requires.group
+unfolding record_seen
+returns-clause-read c = group_seen c.args.reader c.args.brand c.args.index c.args.inner c.requires.record c.requires.active c.requires.brand c.requires.field c.requires.group

@@ -1,12 +1,12 @@
--- The number at the offset, with its sign, is what the record holds at the field, as its slot is there.
-use Rattle.std.proofs.Common.{ap, arith, of_z, sym, to_z, ◌∙◌}
-use Rattle.std.specs.Int.{w64, cast_signed}
-use Rattle.std.proofs.lemmas.Int.{of_z-to_z}
+-- The number with its sign is what is read of the sections, which is what the record holds there.
+use Rattle.std.proofs.Common.{ap, ◌∙◌}
+use Rattle.std.specs.Int.{w64}
+use Rattle.std.proofs.lemmas.Int.{to_z-of_z}
 use Rattle.capnp_records.specs.Record as value
-use Rattle.capnp_request.proofs.NumbersSeen.{integer_there}
+use Rattle.capnp_request.proofs.PartsRead.{there}
 use Rattle.capnp_request.proofs.parts.i64_at.Goals as goal
 
 pub returns : goal.returns
 returns c =
-    ap (λ x. value.Number x) (ap (λ x. to_z w64 (of_z w64 x)) c.cast_signed.ensures ∙ (ap (cast_signed w64) (of_z-to_z w64 c.get_data_field_mask.result (omega (arith, c.get_data_field_mask.type_inv))) ∙ ap (cast_signed w64) c.get_data_field_mask.ensures))
-    ∙ sym (integer_there c.args.reader c.args.brand c.args.index c.requires.record c.requires.active c.get_sections-sections.result c.get_sections-sections.ensures c.struct_is_well_formed.ensures.0 c.args.offset 8 c.requires.field)
+    ap (λ x. value.Number x) (to_z-of_z w64 c.i64_at.result (record { sfits = c.i64_at.type_inv }))
+    ∙ there c.args.brand c.args.index c.sections_at-sections.ensures.record c.i64_at.ensures

@@ -1,9 +1,7 @@
-use Rattle.std.proofs.Common.{arith}
-use Rattle.capnp_request.proofs.MembersSeen.{type_here, type_past}
+use Rattle.std.proofs.Common.{◌∙◌, ap}
+use Rattle.capnp_records.specs.Part.{which_of}
+use Rattle.capnp_request.proofs.PartsRead.{same_record}
 use Rattle.capnp_request.proofs.parts.type_member.Goals as goal
 
-pub returns-then-number-lt19 : goal.returns-then-number-lt19
-returns-then-number-lt19 c = type_here c.args.reader c.get_sections-sections.result c.get_sections-sections.ensures _ c.requires c.load_pair-number.ensures c.if-number-lt19.true
-
 pub returns : goal.returns
-returns c = type_past c.args.reader c.get_sections-sections.result c.get_sections-sections.ensures _ c.requires c.load_pair-number.ensures (omega (arith, c.if-number-lt19.false))
+returns c = c.member_at.ensures ∙ ap which_of (same_record c.args.reader 13 c.requires)

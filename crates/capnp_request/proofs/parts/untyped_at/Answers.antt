@@ -1,23 +1,13 @@
--- An untyped pointer is always read, as nothing behind it is entered, and a value of this type is one. So it can be taken out.
-use Rattle.std.proofs.Common.{ap, refl, ◌∙◌}
-use Rattle.capnp_request.specs.RequestSet.{request_set}
-use Rattle.capnp_schema.specs.Schema.{field_at}
-use Rattle.capnp_schema.specs.Types.{AnyPointerType}
-use Rattle.capnp_dynamic_readers.specs.Seen.{value_seen}
-use Rattle.capnp_request.proofs.Always.{whole_field}
-use Rattle.capnp_request.proofs.Taken.{kind_is}
+-- The pointer at the slot's place is what the record holds there, whatever it leads to.
+use Rattle.capnp_request.proofs.PartsRead.{there}
+use Rattle.capnp_request.proofs.UntypedSeen.{untyped_there}
+use Rattle.std.proofs.Common.{ap, ◌∙◌}
+use Rattle.capnp_wire.specs.Standing.{tree_of}
+use Rattle.capnp_records.specs.Record as value
 use Rattle.capnp_request.proofs.parts.untyped_at.Goals as goal
 
-pub sure_part-value-requires : goal.sure_part-value-requires
-sure_part-value-requires c = record {
-  «record» = c.requires.record;
-  field = (c.requires.field.0, refl);
-  always = whole_field (field_at request_set c.args.brand c.args.index).field.kind (field_at request_set c.args.brand c.args.index).type AnyPointerType c.requires.field.1 refl;
-  active = c.requires.active;
-}
-
-pub downcast-requires : goal.downcast-requires
-downcast-requires c = λ k. ((refl, tt), kind_is request_set (field_at request_set c.args.brand c.args.index).type AnyPointerType c.sure_part-value.result c.sure_part-value.ensures.typed c.requires.field.1)
-
 pub returns : goal.returns
-returns c = ap value_seen c.downcast.ensures ∙ c.sure_part-value.ensures.value
+returns c =
+    ap (λ p. value.Untyped (tree_of p)) c.new.ensures
+    ∙ there c.args.brand c.args.index c.sections_at-sections.ensures.record
+    (untyped_there c.sections_at-sections.result c.args.brand c.args.index c.sections_at-sections.ensures.active c.get_pointer_field.result c.args.place c.get_pointer_field.ensures.tree c.get_pointer_field.ensures.levels c.requires.field)

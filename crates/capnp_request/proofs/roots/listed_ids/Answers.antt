@@ -1,8 +1,8 @@
 -- The ids gathered, before those that the list still says, are the whole list's. An element that can't be read refuses it.
 use Rattle.std.proofs.Common.{ℕ, [], rules, ◌+◌, ◌<◌, ◌≤◌, ◌≡◌, ◌∙◌, ◌∷◌, ap, arith, sym, Ok}
 use Rattle.std.proofs.lemmas.Result.{err_from_is_err_and}
+use Rattle.capnp_request.specs.Steps.Seen.{record_seen}
 use Rattle.capnp_request.specs.Steps.Handles.{values_left}
-use Rattle.capnp_dynamic_readers.specs.Seen.{record_seen}
 use Rattle.capnp_request.specs.Reading.{all_said, each_said, id_said, number_in, whole_list}
 use Rattle.capnp_request.proofs.ListsSaid.{length_of, said_fault, said_none, said_record}
 use Rattle.capnp_request.proofs.RootsNamed.{behind_end, behind_more, behind_none, behind_refused, said_behind, whole_read}

@@ -2,7 +2,7 @@
 -- Either's refusal is the root's.
 use Rattle.std.proofs.Common.{◌≡◌, rules, true}
 use Rattle.std.proofs.lemmas.Result.{err_from_is_err_and}
-use Rattle.capnp_dynamic_readers.specs.Seen.{record_seen}
+use Rattle.capnp_request.specs.Steps.Seen.{record_seen}
 use Rattle.capnp_request.specs.Steps.Done.{between}
 use Rattle.capnp_request.specs.Steps.Nodes.{nodes_of}
 use Rattle.capnp_request.specs.Reading.{node_said}

@@ -1,4 +1,4 @@
-use Rattle.capnp_dynamic_readers.specs.Seen.{record_seen}
+use Rattle.capnp_request.specs.Steps.Seen.{record_seen}
 use Rattle.capnp_request.proofs.NodesRead.{name_read, name_unread}
 use Rattle.capnp_request.proofs.Refused.{err_if}
 use Rattle.capnp_request.proofs.schema_nodes.display_name.Goals as goal

@@ -1,5 +1,5 @@
 -- The node is an enum, so its group is the one that its kind is read from. The list there, or its fault, is what the kind says.
-use Rattle.capnp_dynamic_readers.specs.Seen.{record_seen}
+use Rattle.capnp_request.specs.Steps.Seen.{record_seen}
 use Rattle.capnp_request.proofs.NodesRead.{enum_kind, enumerants_read, enumerants_unread}
 use Rattle.capnp_request.proofs.Refused.{err_if}
 use Rattle.capnp_request.proofs.schema_nodes.enumerants.Goals as goal

@@ -1,12 +1,12 @@
 -- The active member decides the node's kind: 6 is a struct, any other is not, and without one the node is of no kind.
 use Rattle.std.proofs.Common.{ap, sym, ◌∙◌}
-use Rattle.capnp_dynamic_readers.specs.Seen.{record_seen}
+use Rattle.capnp_request.specs.Steps.Seen.{record_seen}
 use Rattle.capnp_request.specs.Types.{is_struct_kind}
 use Rattle.capnp_request.proofs.NodesRead.{kind_none, struct_where}
 use Rattle.capnp_request.proofs.schema_nodes.is_struct_node.Goals as goal
 
 pub returns-in-Some-clause-kind : goal.returns-in-Some-clause-kind
-returns-in-Some-clause-kind c = struct_where (record_seen c.args.node) c.in-Some.member (sym c.active_member.ensures ∙ c.in-Some.is)
+returns-in-Some-clause-kind c = struct_where (record_seen c.args.node) c.in-Some.member (sym c.node_member.ensures ∙ c.in-Some.is)
 
 pub returns-in-None-clause-kind : goal.returns-in-None-clause-kind
-returns-in-None-clause-kind c = ap is_struct_kind (kind_none (record_seen c.args.node) (sym c.active_member.ensures ∙ c.in-None.is))
+returns-in-None-clause-kind c = ap is_struct_kind (kind_none (record_seen c.args.node) (sym c.node_member.ensures ∙ c.in-None.is))

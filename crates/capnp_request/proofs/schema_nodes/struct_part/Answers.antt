@@ -1,4 +1,4 @@
-use Rattle.capnp_dynamic_readers.specs.Seen.{record_seen}
+use Rattle.capnp_request.specs.Steps.Seen.{record_seen}
 use Rattle.capnp_request.proofs.NodesRead.{struct_kind}
 use Rattle.capnp_request.proofs.schema_nodes.struct_part.Goals as goal
 

@@ -2,9 +2,9 @@
 -- Node and brand hold the fields' parts in the same order.
 use Rattle.std.proofs.Common.{◌∙◌, ap, map, refl, string_bytes, sym}
 use Rattle.std.proofs.lemmas.Result.{err_from_is_err_and}
-use Rattle.capnp_dynamic_readers.specs.Seen.{record_seen}
 use Rattle.capnp_schema.specs.Schema.{seen_field}
 use Rattle.capnp_schema.specs.Types.{seen_type}
+use Rattle.capnp_request.specs.Steps.Seen.{record_seen}
 use Rattle.capnp_request.specs.Steps.Bindings.{bounds}
 use Rattle.capnp_request.specs.Conversion.{annotations_of}
 use Rattle.capnp_request.specs.Steps.Done.{between}

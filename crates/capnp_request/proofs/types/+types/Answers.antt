@@ -3,7 +3,7 @@
 use Rattle.std.proofs.Common.{true, false, None, ◌-◌, ◌≤◌, ◌≡◌, ◌∙◌, arith, ap, refl, suc, sym, map, option_map, Err, Ok, Some, rules, List, []}
 use Rattle.capnp_schema.specs.Types.{seen_type}
 use Rattle.capnp_records.specs.Part.{which_of}
-use Rattle.capnp_dynamic_readers.specs.Seen.{record_seen}
+use Rattle.capnp_request.specs.Steps.Seen.{record_seen}
 use Rattle.capnp_request.specs.Steps.Bindings.{bounds, flags, seen_bound, seen_marked, with_nothing}
 use Rattle.capnp_request.specs.Steps.Done.{so_far}
 use Rattle.capnp_request.specs.Steps.Handles.{values_left}
@@ -155,48 +155,48 @@ scope_types-returns-in-None-clause-done t c =
 
 pub said_types-returns-in_default-clause-done : goal.said_types-returns-in_default-clause-done
 said_types-returns-in_default-clause-done t c =
-    λ n. scope_none (nodes_of c.args.context.nodes.now) c.args.context.strict (bounds c.args.inside.now) (type_said c.args.depth) (record_seen c.args.own) (with_nothing c.args.scope) (so_far c.args.entries.now c.args.seen.now) (sym c.active_member.ensures ∙ c.in_default.is) ∙ ap (λ k. Err k) (sym c.from.ensures)
+    λ n. scope_none (nodes_of c.args.context.nodes.now) c.args.context.strict (bounds c.args.inside.now) (type_said c.args.depth) (record_seen c.args.own) (with_nothing c.args.scope) (so_far c.args.entries.now c.args.seen.now) (sym c.scope_member.ensures ∙ c.in_default.is) ∙ ap (λ k. Err k) (sym c.from.ensures)
 
 pub said_types-returns-in_err-bindings-in-1-clause-done : goal.said_types-returns-in_err-bindings-in-1-clause-done
 said_types-returns-in_err-bindings-in-1-clause-done t c =
-    err_done (λ types. map seen_marked types.items) (scope_types (nodes_of c.args.context.nodes.now) c.args.context.strict (bounds c.args.inside.now) (scope_said (type_said c.args.depth) (record_seen c.args.own)) (with_nothing c.args.scope)) (so_far c.args.entries.now c.args.seen.now) _ c.from_residual.result _ c.from_residual.ensures.1 (λ n. scope_unread (nodes_of c.args.context.nodes.now) c.args.context.strict (bounds c.args.inside.now) (type_said c.args.depth) (record_seen c.args.own) (with_nothing c.args.scope) (so_far c.args.entries.now c.args.seen.now) c.in-Some.member (sym c.active_member.ensures ∙ c.in-Some.is) c.in-1.is _ c.in_err-bindings-in-1.ensures.refused)
+    err_done (λ types. map seen_marked types.items) (scope_types (nodes_of c.args.context.nodes.now) c.args.context.strict (bounds c.args.inside.now) (scope_said (type_said c.args.depth) (record_seen c.args.own)) (with_nothing c.args.scope)) (so_far c.args.entries.now c.args.seen.now) _ c.from_residual.result _ c.from_residual.ensures.1 (λ n. scope_unread (nodes_of c.args.context.nodes.now) c.args.context.strict (bounds c.args.inside.now) (type_said c.args.depth) (record_seen c.args.own) (with_nothing c.args.scope) (so_far c.args.entries.now c.args.seen.now) c.in-Some.member (sym c.scope_member.ensures ∙ c.in-Some.is) c.in-1.is _ c.in_err-bindings-in-1.ensures.refused)
 
 pub said_types-returns-in_err-types-in-1-clause-done : goal.said_types-returns-in_err-types-in-1-clause-done
 said_types-returns-in_err-types-in-1-clause-done t c =
     err_done (λ types. map seen_marked types.items) (scope_types (nodes_of c.args.context.nodes.now) c.args.context.strict (bounds c.args.inside.now) (scope_said (type_said c.args.depth) (record_seen c.args.own)) (with_nothing c.args.scope)) (so_far c.args.entries.now c.args.seen.now) _ c.from_residual-in_err-types-in-1.result _ c.from_residual-in_err-types-in-1.ensures.1 (λ n.
-    scope_refused (nodes_of c.args.context.nodes.now) c.args.context.strict (bounds c.args.inside.now) (type_said c.args.depth) (record_seen c.args.own) (with_nothing c.args.scope) (so_far c.args.entries.now c.args.seen.now) c.in-Some.member (sym c.active_member.ensures ∙ c.in-Some.is) c.in-1.is (values_left c.in_ok-bindings-in-1.bindings 0) (sym (all_left c.in_ok-bindings-in-1.bindings) ∙ c.in_ok-bindings-in-1.ensures.read) _ (c.in_err-types-in-1.ensures.done n))
+    scope_refused (nodes_of c.args.context.nodes.now) c.args.context.strict (bounds c.args.inside.now) (type_said c.args.depth) (record_seen c.args.own) (with_nothing c.args.scope) (so_far c.args.entries.now c.args.seen.now) c.in-Some.member (sym c.scope_member.ensures ∙ c.in-Some.is) c.in-1.is (values_left c.in_ok-bindings-in-1.bindings 0) (sym (all_left c.in_ok-bindings-in-1.bindings) ∙ c.in_ok-bindings-in-1.ensures.read) _ (c.in_err-types-in-1.ensures.done n))
 
 pub said_types-returns-in_ok-types-in-1-clause-done : goal.said_types-returns-in_ok-types-in-1-clause-done
 said_types-returns-in_ok-types-in-1-clause-done t c =
-    scope_done (nodes_of c.args.context.nodes.now) c.args.context.strict (bounds c.args.inside.now) (type_said c.args.depth) (record_seen c.args.own) (with_nothing c.args.scope) (so_far c.args.entries.now c.args.seen.now) c.in-Some.member (sym c.active_member.ensures ∙ c.in-Some.is) c.in-1.is (values_left c.in_ok-bindings-in-1.bindings 0) (sym (all_left c.in_ok-bindings-in-1.bindings) ∙ c.in_ok-bindings-in-1.ensures.read) _ _ _ c.in_ok-types-in-1.ensures.done c.drop_untyped.ensures
+    scope_done (nodes_of c.args.context.nodes.now) c.args.context.strict (bounds c.args.inside.now) (type_said c.args.depth) (record_seen c.args.own) (with_nothing c.args.scope) (so_far c.args.entries.now c.args.seen.now) c.in-Some.member (sym c.scope_member.ensures ∙ c.in-Some.is) c.in-1.is (values_left c.in_ok-bindings-in-1.bindings 0) (sym (all_left c.in_ok-bindings-in-1.bindings) ∙ c.in_ok-bindings-in-1.ensures.read) _ _ _ c.in_ok-types-in-1.ensures.done c.drop_untyped.ensures
 
 pub said_types-returns-in-2-clause-done : goal.said_types-returns-in-2-clause-done
 said_types-returns-in-2-clause-done t c =
-    inherits_end (nodes_of c.args.context.nodes.now) c.args.context.strict (bounds c.args.inside.now) (type_said c.args.depth) (record_seen c.args.own) (with_nothing c.args.scope) (so_far c.args.entries.now c.args.seen.now) c.in-Some.member (sym c.active_member.ensures ∙ c.in-Some.is) (λ types. map seen_marked types.items) c.in-2.is c.inherited.result c.inherited.ensures.read c.inherited.ensures.kinds
+    inherits_end (nodes_of c.args.context.nodes.now) c.args.context.strict (bounds c.args.inside.now) (type_said c.args.depth) (record_seen c.args.own) (with_nothing c.args.scope) (so_far c.args.entries.now c.args.seen.now) c.in-Some.member (sym c.scope_member.ensures ∙ c.in-Some.is) (λ types. map seen_marked types.items) c.in-2.is c.inherited.result c.inherited.ensures.read c.inherited.ensures.kinds
 
 pub said_types-returns-in_default-member-clause-done : goal.said_types-returns-in_default-member-clause-done
 said_types-returns-in_default-member-clause-done t c =
-    λ n. scope_other (nodes_of c.args.context.nodes.now) c.args.context.strict (bounds c.args.inside.now) (type_said c.args.depth) (record_seen c.args.own) (with_nothing c.args.scope) (so_far c.args.entries.now c.args.seen.now) c.in-Some.member (sym c.active_member.ensures ∙ c.in-Some.is) (λ e. omega (arith, e)) (λ e. omega (arith, e)) ∙ ap (λ k. Err k) (sym c.from-in_default-member.ensures)
+    λ n. scope_other (nodes_of c.args.context.nodes.now) c.args.context.strict (bounds c.args.inside.now) (type_said c.args.depth) (record_seen c.args.own) (with_nothing c.args.scope) (so_far c.args.entries.now c.args.seen.now) c.in-Some.member (sym c.scope_member.ensures ∙ c.in-Some.is) (λ e. omega (arith, e)) (λ e. omega (arith, e)) ∙ ap (λ k. Err k) (sym c.from-in_default-member.ensures)
 
 pub binding_type-returns-in_default-clause-done : goal.binding_type-returns-in_default-clause-done
 binding_type-returns-in_default-clause-done t c =
-    λ n. binding_none (nodes_of c.args.context.nodes.now) c.args.context.strict (bounds c.args.inside.now) (type_said c.args.depth) (record_seen c.args.binding) (so_far c.args.entries.now c.args.seen.now) (sym c.active_member.ensures ∙ c.in_default.is) ∙ ap (λ k. Err k) (sym c.from.ensures)
+    λ n. binding_none (nodes_of c.args.context.nodes.now) c.args.context.strict (bounds c.args.inside.now) (type_said c.args.depth) (record_seen c.args.binding) (so_far c.args.entries.now c.args.seen.now) (sym c.binding_member.ensures ∙ c.in_default.is) ∙ ap (λ k. Err k) (sym c.from.ensures)
 
 pub binding_type-returns-in-0-clause-done : goal.binding_type-returns-in-0-clause-done
 binding_type-returns-in-0-clause-done t c =
-    binding_unbound (nodes_of c.args.context.nodes.now) c.args.context.strict (bounds c.args.inside.now) (type_said c.args.depth) (record_seen c.args.binding) (so_far c.args.entries.now c.args.seen.now) c.in-Some.member (sym c.active_member.ensures ∙ c.in-Some.is) _ c.in-0.is c.untyped.ensures
+    binding_unbound (nodes_of c.args.context.nodes.now) c.args.context.strict (bounds c.args.inside.now) (type_said c.args.depth) (record_seen c.args.binding) (so_far c.args.entries.now c.args.seen.now) c.in-Some.member (sym c.binding_member.ensures ∙ c.in-Some.is) _ c.in-0.is c.untyped.ensures
 
 pub binding_type-returns-in_err-term-in-1-clause-done : goal.binding_type-returns-in_err-term-in-1-clause-done
 binding_type-returns-in_err-term-in-1-clause-done t c =
-    err_done seen_marked (type_of (nodes_of c.args.context.nodes.now) c.args.context.strict (bounds c.args.inside.now) (binding_said (type_said c.args.depth) (record_seen c.args.binding))) (so_far c.args.entries.now c.args.seen.now) _ c.from_residual.result _ c.from_residual.ensures.1 (λ n. binding_unread (nodes_of c.args.context.nodes.now) c.args.context.strict (bounds c.args.inside.now) (type_said c.args.depth) (record_seen c.args.binding) (so_far c.args.entries.now c.args.seen.now) c.in-Some.member (sym c.active_member.ensures ∙ c.in-Some.is) c.in-1.is _ c.in_err-term-in-1.ensures.refused)
+    err_done seen_marked (type_of (nodes_of c.args.context.nodes.now) c.args.context.strict (bounds c.args.inside.now) (binding_said (type_said c.args.depth) (record_seen c.args.binding))) (so_far c.args.entries.now c.args.seen.now) _ c.from_residual.result _ c.from_residual.ensures.1 (λ n. binding_unread (nodes_of c.args.context.nodes.now) c.args.context.strict (bounds c.args.inside.now) (type_said c.args.depth) (record_seen c.args.binding) (so_far c.args.entries.now c.args.seen.now) c.in-Some.member (sym c.binding_member.ensures ∙ c.in-Some.is) c.in-1.is _ c.in_err-term-in-1.ensures.refused)
 
 pub binding_type-returns-in_ok-term-in-1-clause-done : goal.binding_type-returns-in_ok-term-in-1-clause-done
 binding_type-returns-in_ok-term-in-1-clause-done t c =
-    term_done (nodes_of c.args.context.nodes.now) c.args.context.strict (bounds c.args.inside.now) seen_marked (binding_said (type_said c.args.depth) (record_seen c.args.binding)) (type_said c.args.depth (record_seen c.in_ok-term-in-1.term)) _ _ _ (binding_is (nodes_of c.args.context.nodes.now) c.args.context.strict (bounds c.args.inside.now) (type_said c.args.depth) (record_seen c.args.binding) (so_far c.args.entries.now c.args.seen.now) c.in-Some.member (sym c.active_member.ensures ∙ c.in-Some.is) c.in-1.is (record_seen c.in_ok-term-in-1.term) c.in_ok-term-in-1.ensures.read) c.type_of.ensures.done
+    term_done (nodes_of c.args.context.nodes.now) c.args.context.strict (bounds c.args.inside.now) seen_marked (binding_said (type_said c.args.depth) (record_seen c.args.binding)) (type_said c.args.depth (record_seen c.in_ok-term-in-1.term)) _ _ _ (binding_is (nodes_of c.args.context.nodes.now) c.args.context.strict (bounds c.args.inside.now) (type_said c.args.depth) (record_seen c.args.binding) (so_far c.args.entries.now c.args.seen.now) c.in-Some.member (sym c.binding_member.ensures ∙ c.in-Some.is) c.in-1.is (record_seen c.in_ok-term-in-1.term) c.in_ok-term-in-1.ensures.read) c.type_of.ensures.done
 
 pub binding_type-returns-in_default-member-clause-done : goal.binding_type-returns-in_default-member-clause-done
 binding_type-returns-in_default-member-clause-done t c =
-    λ n. binding_past (nodes_of c.args.context.nodes.now) c.args.context.strict (bounds c.args.inside.now) (type_said c.args.depth) (record_seen c.args.binding) (so_far c.args.entries.now c.args.seen.now) c.in-Some.member (sym c.active_member.ensures ∙ c.in-Some.is) (omega arith) ∙ ap (λ k. Err k) (sym c.from-in_default-member.ensures)
+    λ n. binding_past (nodes_of c.args.context.nodes.now) c.args.context.strict (bounds c.args.inside.now) (type_said c.args.depth) (record_seen c.args.binding) (so_far c.args.entries.now c.args.seen.now) c.in-Some.member (sym c.binding_member.ensures ∙ c.in-Some.is) (omega arith) ∙ ap (λ k. Err k) (sym c.from-in_default-member.ensures)
 
 pub bound_types-loop-index-init : goal.bound_types-loop-index-init
 bound_types-loop-index-init t c =

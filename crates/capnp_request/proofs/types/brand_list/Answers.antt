@@ -1,6 +1,6 @@
 -- The brand's struct is read and then its list of scopes, so the brand says what is in that list.
 -- A fault of either leaves the brand unread.
-use Rattle.capnp_dynamic_readers.specs.Seen.{list_seen, record_seen}
+use Rattle.capnp_request.specs.Steps.Seen.{list_seen, record_seen}
 use Rattle.capnp_request.proofs.ListsRead.{all_left}
 use Rattle.capnp_request.proofs.Refused.{err_if}
 use Rattle.capnp_request.proofs.ScopesBound.{brand_fault, list_fault, list_read}

@@ -2,7 +2,7 @@
 -- A scope of another id is passed, and one of this id is found.
 use Rattle.std.proofs.Common.{arith, refl, ◌∙◌}
 use Rattle.std.specs.Option.{option_map}
-use Rattle.capnp_dynamic_readers.specs.Seen.{record_seen}
+use Rattle.capnp_request.specs.Steps.Seen.{record_seen}
 use Rattle.capnp_request.specs.Steps.Handles.{values_left}
 use Rattle.capnp_request.specs.Steps.Meant.{scope_in}
 use Rattle.capnp_request.specs.Reading.{scope_said, scopes_said}

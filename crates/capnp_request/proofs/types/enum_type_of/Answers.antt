@@ -1,6 +1,6 @@
 -- The id in the type's group gets its number as an enum, or is refused, and the type of that number is what the term means.
 use Rattle.std.proofs.Common.{◌∙◌, ap}
-use Rattle.capnp_dynamic_readers.specs.Seen.{record_seen}
+use Rattle.capnp_request.specs.Steps.Seen.{record_seen}
 use Rattle.capnp_request.specs.Steps.Bindings.{seen_marked}
 use Rattle.capnp_request.specs.Steps.Nodes.{nodes_of}
 use Rattle.capnp_request.specs.Steps.Numbers.{numbered_entries}

@@ -2,7 +2,7 @@
 use Rattle.std.proofs.Common.{◌≡◌, ◌∙◌, ap, refl, sym, Ok, Some}
 use Rattle.capnp_schema.specs.Types.{seen_type}
 use Rattle.capnp_records.specs.Part.{which_of}
-use Rattle.capnp_dynamic_readers.specs.Seen.{record_seen}
+use Rattle.capnp_request.specs.Steps.Seen.{record_seen}
 use Rattle.capnp_request.specs.Steps.Bindings.{bounds}
 use Rattle.capnp_request.specs.Steps.Done.{so_far}
 use Rattle.capnp_request.specs.Steps.Nodes.{nodes_of}

@@ -1,7 +1,7 @@
 -- The member decides the width, and the number read there is what the record says of it.
 -- A member that is none of these lies past all kinds of values.
 use Rattle.std.proofs.Common.{ap, arith, rules, ◌∙◌, Err, sym}
-use Rattle.capnp_dynamic_readers.specs.Seen.{record_seen}
+use Rattle.capnp_request.specs.Steps.Seen.{record_seen}
 use Rattle.capnp_request.specs.Values.{value_stated}
 use Rattle.capnp_request.proofs.ValuesRead.{said_by, said_so, value_past}
 use Rattle.capnp_request.proofs.values.data_value.Goals as goal

@@ -1,5 +1,5 @@
 use Rattle.std.proofs.Common.{sym, ◌∙◌}
-use Rattle.capnp_dynamic_readers.specs.Seen.{record_seen}
+use Rattle.capnp_request.specs.Steps.Seen.{record_seen}
 use Rattle.capnp_request.proofs.ValuesRead.{no_member, not_untyped}
 use Rattle.capnp_request.proofs.values.is_untyped_value.Goals as goal
 

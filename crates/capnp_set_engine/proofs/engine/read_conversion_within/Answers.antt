@@ -1,10 +1,9 @@
--- The message's root is entered as the struct that the request's set reads, so what is converted is the request.
+-- The message's root is entered as the struct that a request is read from, so what is converted is the request.
 -- Each refusal is of stream, root or request, or its lists are too large; none is a device's.
-use Rattle.std.proofs.Common.{ap, sym, ◌∙◌}
+use Rattle.std.proofs.Common.{sym}
 use Rattle.std.proofs.lemmas.Result.{err_from_is_err_and}
 use Rattle.capnp_wire.specs.Message.{received_tree}
 use Rattle.capnp_wire.specs.Standing.{levels_of, struct_of, tree_of}
-use Rattle.capnp_schema.specs.StructHandles.{number_of, set_of}
 use Rattle.capnp_sets.specs.Facts.RootRead.{root_entered}
 use Rattle.capnp_set_engine.proofs.Made.{conversion_is, each_answer, each_refusal, each_refusal_of, request_seen, unread_within}
 use Rattle.capnp_set_engine.proofs.Refusals.{of_request, root_of_read, stream_of_read}
@@ -13,17 +12,13 @@ use Rattle.capnp_set_engine.proofs.engine.read_conversion_within.Goals as goal
 pub returns-clause-converted : goal.returns-clause-converted
 returns-clause-converted c =
     let root = root_entered c.args.bytes.now (received_tree c.in_ok-reader.reader) (tree_of c.get_root.result) (levels_of c.get_root.result) (struct_of c.in_ok-root.root) c.in_ok-reader.ensures c.get_root.ensures.tree c.get_root.ensures.levels c.in_ok-root.ensures.read in
-    let seen = request_seen c.new-record.result c.in_ok-root.root (levels_of c.get_root.result) c.new-record.ensures.reader
-    (record { set = ap set_of c.new-record.ensures.schema ∙ (c.struct_schema.ensures.set ∙ c.in_ok-set.ensures.set); number = ap number_of c.new-record.ensures.schema ∙ c.struct_schema.ensures.number })
-    c.in_ok-root.ensures.levels c.get_root.ensures.levels in
+    let seen = request_seen c.in_ok-root.root (levels_of c.get_root.result) c.in_ok-root.ensures.levels c.get_root.ensures.levels in
     each_answer c.read_request_within.result (λ made h. record { root = struct_of c.in_ok-root.root; request = sym root; converted = conversion_is c.args.strict _ (struct_of c.in_ok-root.root) _ seen h }) c.read_request_within.ensures.read
 
 pub returns-clause-refused : goal.returns-clause-refused
 returns-clause-refused c =
     let root = root_entered c.args.bytes.now (received_tree c.in_ok-reader.reader) (tree_of c.get_root.result) (levels_of c.get_root.result) (struct_of c.in_ok-root.root) c.in_ok-reader.ensures c.get_root.ensures.tree c.get_root.ensures.levels c.in_ok-root.ensures.read in
-    let seen = request_seen c.new-record.result c.in_ok-root.root (levels_of c.get_root.result) c.new-record.ensures.reader
-    (record { set = ap set_of c.new-record.ensures.schema ∙ (c.struct_schema.ensures.set ∙ c.in_ok-set.ensures.set); number = ap number_of c.new-record.ensures.schema ∙ c.struct_schema.ensures.number })
-    c.in_ok-root.ensures.levels c.get_root.ensures.levels in
+    let seen = request_seen c.in_ok-root.root (levels_of c.get_root.result) c.in_ok-root.ensures.levels c.get_root.ensures.levels in
     each_refusal_of c.read_request_within.result (λ e h k m. unread_within c.args.limit c.args.strict c.args.bytes.now _ (struct_of c.in_ok-root.root) e.kind seen (sym root) k (h m)) c.read_request_within.ensures.refused c.read_request_within.ensures.kinds
 
 pub returns-clause-of_no_device : goal.returns-clause-of_no_device

@@ -2,8 +2,8 @@
 -- Node, brand and notes go behind those made, and each brand keeps its node.
 use Rattle.std.proofs.Common.{◌≡◌, ◌∙◌, ap, length, map, inr, refl, string_bytes, sym, Ok}
 use Rattle.std.proofs.lemmas.Result.{err_from_is_err_and}
-use Rattle.capnp_dynamic_readers.specs.Seen.{record_seen}
 use Rattle.capnp_schema.specs.Schema.{seen_brand, seen_enum, seen_node}
+use Rattle.capnp_request.specs.Steps.Seen.{record_seen}
 use Rattle.capnp_request.specs.Steps.Bindings.{bounds}
 use Rattle.capnp_request.specs.Steps.Done.{between}
 use Rattle.capnp_request.specs.Steps.Nodes.{nodes_of}

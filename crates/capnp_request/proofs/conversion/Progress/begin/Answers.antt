@@ -2,7 +2,7 @@
 -- Each refusal is the beginning's, and the holders after the name are handed on.
 use Rattle.std.proofs.Common.{◌≡◌, ap, length, rules}
 use Rattle.std.proofs.lemmas.Result.{err_from_is_err_and}
-use Rattle.capnp_dynamic_readers.specs.Seen.{record_seen}
+use Rattle.capnp_request.specs.Steps.Seen.{record_seen}
 use Rattle.capnp_request.specs.Steps.EntriesSeen.{seen_entry, seen_place}
 use Rattle.capnp_request.specs.Steps.NamesMade.{AreHolders, texts}
 use Rattle.capnp_request.specs.Steps.Nodes.{nodes_of}

@@ -3,7 +3,7 @@
 use Rattle.std.proofs.Common.{◌∷◌, map}
 use Rattle.std.proofs.lemmas.Result.{err_from_is_err_and}
 use Rattle.capnp_schema.specs.Schema.{seen_node}
-use Rattle.capnp_dynamic_readers.specs.Seen.{record_seen}
+use Rattle.capnp_request.specs.Steps.Seen.{record_seen}
 use Rattle.capnp_request.specs.Steps.EntriesSeen.{seen_entry}
 use Rattle.capnp_request.specs.Names.{dotted_of}
 use Rattle.capnp_request.specs.Steps.NamesMade.{texts}

@@ -1,6 +1,6 @@
 -- Whether the node is an annotation decides: its group is then the declaration, and a node of another kind declares nothing.
 use Rattle.std.proofs.Common.{◌∙◌}
-use Rattle.capnp_dynamic_readers.specs.Seen.{record_seen}
+use Rattle.capnp_request.specs.Steps.Seen.{record_seen}
 use Rattle.capnp_request.proofs.NodesRead.{annotation_kind, declared_by, undeclared}
 use Rattle.capnp_request.proofs.schema_nodes.SchemaNodes.declaration.Goals as goal
 

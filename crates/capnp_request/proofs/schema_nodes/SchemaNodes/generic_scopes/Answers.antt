@@ -1,7 +1,7 @@
 -- The scopes gathered, before those from this id outwards, are all of the node's.
 -- The way ends at an id of no node, at one met before, or without a step left.
 use Rattle.std.proofs.Common.{ℕ, arith, ap, sym, ◌-◌, ◌+◌, ◌∙◌, Ok}
-use Rattle.capnp_dynamic_readers.specs.Seen.{record_seen}
+use Rattle.capnp_request.specs.Steps.Seen.{record_seen}
 use Rattle.capnp_request.specs.Steps.Nodes.{nodes_of}
 use Rattle.capnp_request.specs.Reading.{node_said}
 use Rattle.capnp_request.proofs.NodesRead.{parameters_read, parameters_unread, scope_read}

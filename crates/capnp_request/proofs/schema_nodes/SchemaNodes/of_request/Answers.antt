@@ -1,8 +1,7 @@
 -- The map has the first node of each id among those before the index, and one more node keeps it so.
 -- Past the last it is the map of all that is read.
 use Rattle.std.proofs.Common.{arith, ap, sym, ◌∙◌, ◌≡◌, List, length, Ok}
-use Rattle.capnp_schema.specs.StructHandles.{set_of}
-use Rattle.capnp_dynamic_readers.specs.Seen.{record_seen}
+use Rattle.capnp_request.specs.Steps.Seen.{record_seen}
 use Rattle.capnp_request.specs.Steps.Nodes.{nodes_of}
 use Rattle.capnp_request.specs.Reading.{nodes_in}
 use Rattle.capnp_request.specs.Scopes.{node_named}
@@ -24,15 +23,14 @@ returns-in_err-reader-clause-refused c =
 pub loop-index-preserved : goal.loop-index-preserved
 loop-index-preserved c =
     one_read c.in_ok-listed.listed c.loop-index.by_id c.loop-index.index c.loop-index.invariant c.in_ok-listed.ensures.elements (omega arith) (record_seen c.in_ok-reader.reader) c.in_ok-reader.ensures.read
-    c.u64_at-id.result (id_read (record_seen c.in_ok-reader.reader) c.u64_at-id.result c.u64_at-id.ensures) c.keep_first.new.by_id c.get_sections.result c.in_ok-keep_first.ensures.kept
-    (section_record c.in_ok-reader.reader c.get_sections.result c.in_ok-reader.ensures.record c.get_sections.ensures)
+    c.u64_at-id.result (id_read (record_seen c.in_ok-reader.reader) c.u64_at-id.result c.u64_at-id.ensures) c.keep_first.new.by_id c.in_ok-reader.reader.sections c.in_ok-keep_first.ensures.kept
+    (section_record c.in_ok-reader.reader c.in_ok-reader.ensures.record)
 
 pub returns-clause-nodes : goal.returns-clause-nodes
 unfolding nodes_of
 returns-clause-nodes c =
     let read : nodes_in (record_seen c.args.request) ≡ Ok c.loop-index.invariant.nodes = nodes_read (record_seen c.args.request) c.in_ok-listed.listed c.in_ok-listed.ensures.read ∙ all_read c.in_ok-listed.listed c.loop-index.by_id c.loop-index.index c.loop-index.invariant (omega arith) in
     record {
-      set = c.get_set-schemas.ensures ∙ (ap set_of c.get_schema.ensures ∙ c.requires.set);
       read = read ∙ ap (λ (ns : List SchemaNode). Ok ns) (sym (nodes_made (record_seen c.args.request) _ read));
       count = let few : c.len-count.result ≡ c.loop-index.index = omega (arith, c.len-count.ensures) in few ∙ (sym c.loop-index.invariant.count ∙ ap length (sym (nodes_made (record_seen c.args.request) _ read)));
       by_id = λ id. c.loop-index.invariant.by_id id ∙ ap (λ (ns : List SchemaNode). node_named ns id) (sym (nodes_made (record_seen c.args.request) _ read));
