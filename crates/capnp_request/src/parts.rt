@@ -123,11 +123,7 @@ fn sure_part<'a>(reader: dynamic_struct::Reader<'a>, brand: u32, index: u16) -> 
 
 /// The sections of a record, of which a field is read.
 #[inline(always)]
-fn sections_at<'a>(
-    reader: dynamic_struct::Reader<'a>,
-    brand: u32,
-    index: u16,
-) -> StructReader<'a>
+fn sections_at<'a>(reader: dynamic_struct::Reader<'a>, brand: u32, index: u16) -> StructReader<'a>
     requires record { IsRequestRecord brand reader }
     requires active { IsRequestFieldActive brand index reader }
     ensures record { record_in request_set brand result ≡ record_seen reader.entry }

@@ -8,5 +8,5 @@ use Rattle.capnp_request.proofs.parts.i8_at.Goals as goal
 
 pub returns : goal.returns
 returns c =
-    ap (λ x. value.Number x) (to_z-of_z w8 c.i8_at.result (record { sfits = c.i8_at.type_inv; }))
+    ap (λ x. value.Number x) (to_z-of_z w8 c.i8_at.result (record { sfits = c.i8_at.type_inv }))
     ∙ there c.args.brand c.args.index c.sections_at-sections.ensures.record c.i8_at.ensures
