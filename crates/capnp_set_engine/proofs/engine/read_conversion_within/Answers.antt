@@ -31,5 +31,5 @@ returns-in_err-root-clause-of_no_device c =
 
 pub returns-in_err-reader-clause-of_no_device : goal.returns-in_err-reader-clause-of_no_device
 returns-in_err-reader-clause-of_no_device c =
-    let p = err_from_is_err_and c.from_residual-in_err-reader.result c.from_residual-in_err-reader.ensures.1 in rw (p.1, p.2)
+    let p = err_from_is_err_and c.from_residual.result c.from_residual.ensures.1 in rw (p.1, p.2)
     (stream_of_read c.args.bytes.now _ c.in_err-reader.ensures)
