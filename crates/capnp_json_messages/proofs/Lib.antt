@@ -19,3 +19,5 @@ pub mod DataBack
 pub mod IntegersBack
 pub mod HolderReads
 pub mod OneReads
+pub mod OneCopied
+pub mod OneRead
