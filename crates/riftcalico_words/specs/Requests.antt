@@ -3,7 +3,7 @@ use Rattle.std.specs.Prelude.{ℕ, List, [], ◌∷◌, ◌^◌, Bool, true, fal
 use Rattle.std.specs.Option.{option_map}
 use Rattle.riftcalico_words.specs.Numbers.{number_asked}
 use Rattle.riftcalico_words.specs.Options.{WordOptions, no_options, options_read}
-use Rattle.riftcalico_words.specs.Tasks.{CallsTask, GivenCalls, Task, check_task, compatible_task, convert_task, fields_task, from_json_task, get_task, help_task, json_task, in_lines, in_words, new_task, patch_task, structs_task}
+use Rattle.riftcalico_words.specs.Tasks.{CallsTask, GivenCalls, Task, check_task, compatible_task, convert_task, fields_task, from_json_task, get_task, help_task, json_task, in_lines, in_words, new_task, patch_task, structs_task, version_task}
 use Rattle.riftcalico_words.specs.declared.options.Flag.{Flag}
 use Rattle.riftcalico_words.specs.declared.options.Flag.TheVariants as flag
 use Rattle.riftcalico_words.specs.declared.options.ValueOption.{ValueOption}
