@@ -14,3 +14,4 @@ pub mod QuotedRead
 pub mod ReadSteps
 pub mod RowsWords
 pub mod SharedBytes
+pub mod TypesNamed

@@ -1,9 +1,10 @@
 //! The type at the end of a path.
-ghost use Rattle.std.specs.Prelude.{◌≡◌};
+ghost use Rattle.std.specs.Prelude.{◌≡◌, IfSome};
 ghost use Rattle.std.specs.Option.{option_map, option_and_then};
+ghost use Rattle.capnp_schema.specs.Accepted.{NamesEntries};
 ghost use Rattle.capnp_schema.specs.Entries.{lists_seen};
 ghost use Rattle.capnp_schema.specs.Query.{field_named};
-ghost use Rattle.capnp_schema.specs.StructHandles.{generic_of, number_of, set_of, struct_records};
+ghost use Rattle.capnp_schema.specs.StructHandles.{IsStruct, generic_of, number_of, set_of, struct_records};
 ghost use Rattle.capnp_schema.specs.Types.{seen_type, seen_variant, StructType};
 ghost use Rattle.capnp_words.specs.Seen.{path_text_seen, step_text_seen};
 ghost use Rattle.capnp_words.specs.Targets.{field_type, type_along, type_behind};
@@ -56,11 +57,13 @@ fn find_type_behind(schemas: &SchemaSet, kind: TypeVariant, step: &PathStep) -> 
 
 /// The type at the end of a path from a struct, by the schema alone: a struct or group has fields, by name and by
 /// number, and a list has elements, however many there are in a message. None where a step fits nothing. At the end of
-/// the empty path is the struct's own type.
+/// the empty path is the struct's own type. The struct or enum that a type names, or that its lists hold, is there in the
+/// set, where the schema is one of an accepted set (`IsStruct`).
 #[tactic(auto, using(capnp_schema::specs::Facts::Layers::seen_which))]
 pub fn target_type(schema: StructSchema<'_>, path: &Path) -> Option<Type>
-    ensures { option_map seen_type result ≡ type_along (set_of schema.entry)
+    ensures is { option_map seen_type result ≡ type_along (set_of schema.entry)
         (StructType (number_of schema.entry) (generic_of schema.entry)) (path_text_seen path.now) }
+    ensures named { IsStruct schema.entry → IfSome result (λ t. NamesEntries (set_of schema.entry) (seen_type t)) }
 {
     let mut target = Type::from(TypeVariant::Struct(schema.into()));
     for step in &path.steps {
