@@ -21,3 +21,4 @@ pub mod HolderReads
 pub mod OneReads
 pub mod OneCopied
 pub mod OneRead
+pub mod OneTaken
