@@ -6,15 +6,14 @@ use Rattle.capnp_device.specs.declared.error.ErrorKind.TheVariants.{TypeMismatch
 use Rattle.capnp_wire.specs.Depth.{AreBelow, IsShallow}
 use Rattle.capnp_wire.specs.Elements.{or_empty, reads_list}
 use Rattle.capnp_wire.specs.Facts.ReadBack.{none_first}
-use Rattle.capnp_wire.specs.Reading.{element_pointer, element_struct, empty_list, list_length, refusal}
+use Rattle.capnp_wire.specs.Reading.{element_pointer, element_struct, list_length, refusal}
 use Rattle.capnp_wire.specs.Tree as tree
 use Rattle.capnp_wire.specs.Tree.{StructTree, Tree}
 use Rattle.capnp_wire.specs.Words.{first_fault, first_fault_of_all, first_of}
 use Rattle.capnp_wire.specs.declared.size.ElementSize.{ElementSize}
-use Rattle.capnp_wire.specs.declared.size.ElementSize.TheVariants as size
 use Rattle.capnp_schema.specs.Schema.{Schemas}
 use Rattle.capnp_schema.specs.Types.{ListType, SchemaType, StructType, element_size}
-use Rattle.capnp_records.specs.Call.{ListSource, Source, StructSource}
+use Rattle.capnp_records.specs.Call.{ListSource, StructSource}
 use Rattle.capnp_records.specs.Facts.Extension.{reads_rounded}
 use Rattle.capnp_records.specs.Facts.ListValues.{cut_same, elements_same, elements_seen, list_is, unread}
 use Rattle.capnp_records.specs.Given.{Copies, CopiesGroup, Fails, Given, copied_struct}

@@ -1,5 +1,5 @@
 -- A list that is read as elements of a size is read so, by a reader with levels left.
-use Rattle.std.proofs.Common.{◌≡◌, ◌==◌, ◌+◌, ◌-◌, ℕ, arith, Bool, true, false, cond, Result, Ok, Err, IfErr, IfOk, IsOk, ap, refl, sym, ◌∙◌}
+use Rattle.std.proofs.Common.{◌≡◌, ◌==◌, ◌+◌, ◌-◌, ℕ, arith, Bool, true, false, cond, Result, Ok, Err, IfOk, IsOk, ap, refl, sym, ◌∙◌}
 use Rattle.std.proofs.lemmas.Bool.{true≢false}
 use Rattle.capnp_device.specs.declared.error.Error.{Error}
 use Rattle.capnp_device.specs.declared.error.ErrorKind.{ErrorKind}

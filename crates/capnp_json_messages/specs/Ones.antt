@@ -1,5 +1,5 @@
 -- The element of a list of one as it is given to a set.
-use Rattle.std.specs.Prelude.{ℕ, suc, ◌-◌, ◌≡◌, ⊤, Bool, true, false, None}
+use Rattle.std.specs.Prelude.{suc, ◌-◌, ◌≡◌, ⊤, Bool, true, false, None}
 use Rattle.capnp_wire.specs.Depth.{AreBelow}
 use Rattle.capnp_wire.specs.Elements.{or_empty, reads_list}
 use Rattle.capnp_wire.specs.Reading.{element_levels, element_pointer, element_struct}

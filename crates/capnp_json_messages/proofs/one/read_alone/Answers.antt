@@ -1,6 +1,6 @@
 -- The tree of a shallow message is read whole, and as a list.
-use Rattle.std.proofs.Common.{arith, refl, ◌≡◌, Ok}
-use Rattle.capnp_wire.specs.Standing.{levels_of, list_read, tree_of}
+use Rattle.std.proofs.Common.{arith, refl}
+use Rattle.capnp_wire.specs.Standing.{levels_of, tree_of}
 use Rattle.capnp_arena.specs.Message.{message_tree}
 use Rattle.capnp_splices.proofs.Deeper.{below_deeper}
 use Rattle.capnp_json_messages.proofs.OneRead.{as_listed, is_listed, listed_ok, read_there}

@@ -1,5 +1,5 @@
 -- The element's pointer is read as a list, with the levels that are left to it.
-use Rattle.std.proofs.Common.{ap, ◌≡◌, ◌∙◌}
+use Rattle.std.proofs.Common.{ap, ◌∙◌}
 use Rattle.capnp_wire.specs.Elements.{or_empty}
 use Rattle.capnp_wire.specs.Reading.{element_levels, element_pointer}
 use Rattle.capnp_wire.specs.Standing.{levels_of, list_of, tree_of}
