@@ -307,7 +307,7 @@ new|Lists|set items {\"a\":1} -> 1: set items {\"a\":1}: can't be read at 10; wa
 new|Lists|set items  null -> 1: set items  null: can't be read at 11; wanted: a JSON array
 new|Lists|append items 1 -> 1: append items 1: can't be read at 13; wanted: a JSON object
 # no JSON
-new|Lists|set bytes [1,2 -> 1: set bytes [1,2: can't be read at 15; wanted: a JSON array
+new|Lists|set bytes [1,2 -> 1: set bytes [1,2: can't be read at 14; wanted: a JSON array
 new|Lists|set bytes [1]] -> 1: set bytes [1]]: can't be read at 13; wanted: a JSON array
 ";
 

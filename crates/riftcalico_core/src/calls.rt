@@ -4,6 +4,7 @@ ghost use Rattle.std.specs.Option.{option_map, option_and_then};
 ghost use Rattle.capnp_device.specs.declared.error.ErrorKind.TheVariants.{OutOfMemory};
 ghost use Rattle.capnp_schema.specs.Accepted.{NamesEntries};
 ghost use Rattle.capnp_schema.specs.Entries.{lists_seen};
+ghost use Rattle.capnp_schema.specs.Schema.{Schemas};
 ghost use Rattle.capnp_schema.specs.StructHandles.{IsStruct, number_of, set_of};
 ghost use Rattle.capnp_schema.specs.Types.{seen_type};
 ghost use Rattle.capnp_records.specs.Run.{root_type};
@@ -93,7 +94,9 @@ pub fn read_calls(alloc: Global, words: &[&str]) -> Result<Read<Vec<CallWord>>>
 /// The type of the elements of a list.
 #[tactic(auto, using(capnp_schema::specs::Facts::Layers::seen_which))]
 fn find_element_type(list: Type) -> Option<Type>
-    ensures { option_map seen_type result ≡ element_of (seen_type list) }
+    ensures is { option_map seen_type result ≡ element_of (seen_type list) }
+    ensures named { (set : Schemas) → NamesEntries set (seen_type list)
+        → IfSome result (λ t. NamesEntries set (seen_type t)) }
 {
     match list.which() {
         TypeVariant::List(element) => Some(element),
@@ -104,8 +107,9 @@ fn find_element_type(list: Type) -> Option<Type>
 /// The type of the elements of the list at the end of a path under a schema.
 fn find_element_along(schema: StructSchema<'_>, path: &Path) -> Option<Type>
     requires { IsStruct schema }
-    ensures { option_map seen_type result ≡ option_and_then element_of (type_along (set_of schema.entry)
+    ensures is { option_map seen_type result ≡ option_and_then element_of (type_along (set_of schema.entry)
         (root_type (set_of schema.entry) (number_of schema.entry)) (said.path_text_seen path.now)) }
+    ensures named { IfSome result (λ t. NamesEntries (set_of schema.entry) (seen_type t)) }
 {
     find_element_type(target_type(schema, path)?)
 }
@@ -114,8 +118,9 @@ fn find_element_along(schema: StructSchema<'_>, path: &Path) -> Option<Type>
 /// insertion that of the elements there. None where the path leads to nothing.
 pub(crate) fn find_given_type(schema: StructSchema<'_>, call: &CallWord) -> Option<Type>
     requires { IsStruct schema }
-    ensures { option_map seen_type result ≡ given_type (said.op_text_seen call.now.op) (type_along (set_of schema.entry)
+    ensures is { option_map seen_type result ≡ given_type (said.op_text_seen call.now.op) (type_along (set_of schema.entry)
         (root_type (set_of schema.entry) (number_of schema.entry)) (said.path_text_seen call.now.path)) }
+    ensures named { IfSome result (λ t. NamesEntries (set_of schema.entry) (seen_type t)) }
 {
     match &call.op {
         WordOp::Append(_, _) | WordOp::Insert(_, _, _) => find_element_along(schema, &call.path),
