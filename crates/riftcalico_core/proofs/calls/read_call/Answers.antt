@@ -20,11 +20,3 @@ returns-in-Ok-clause-read c =
     ∙ ap (floats_at (set_of c.args.schema) (number_of c.args.schema)) c.in_ok-steps.ensures.steps))
     c.find_given_type-target.ensures.is (rw (c.in-Ok.is) at c.in_ok-value.ensures.read)
     (ap Ok (act_is (call_text_seen c.args.word.now) (path_seen c.in_ok-steps.steps.items) (path_seen c.in_ok-from.from.items) (given_value_source c.in-Ok.value) c.in_ok-steps.ensures.steps c.in_ok-from.ensures.steps))
-
-pub returns-in-Err-clause-read : goal.returns-in-Err-clause-read
-returns-in-Err-clause-read c =
-    call_is (set_of c.args.schema) (root_type (set_of c.args.schema) (number_of c.args.schema)) (call_text_seen c.args.word.now) c.has_floats_at-floats.result (option_map seen_type c.find_given_type-target.result)
-    (Err c.in-Err.place) _
-    (c.has_floats_at-floats.ensures ∙ (ap (λ (steps : List Step). floats_at (set_of c.args.schema) (number_of c.args.schema) (path_seen steps)) c.as_slice.ensures.value
-    ∙ ap (floats_at (set_of c.args.schema) (number_of c.args.schema)) c.in_ok-steps.ensures.steps))
-    c.find_given_type-target.ensures.is (rw (c.in-Err.is) at c.in_ok-value.ensures.read) refl

@@ -11,16 +11,16 @@ returns-then-not-begins_whole-clause-unread c =
     unbegun_at (lists_seen c.args.schemas.now) c.args.is_float (seen_type c.args.element) c.args.text.now c.skip_blanks.result.now c.find_begin-begin.result c.begins_whole.result
     c.find_begin-begin.ensures c.skip_blanks.ensures c.begins_whole.ensures (search rules)
 
-pub returns-in_ok-place-in-Err-clause-unread : goal.returns-in_ok-place-in-Err-clause-unread
-returns-in_ok-place-in-Err-clause-unread c =
+pub returns-in-Err-clause-unread : goal.returns-in-Err-clause-unread
+returns-in-Err-clause-unread c =
     refused_at c.make_row-row.result (lists_seen c.args.schemas.now) (seen_type c.args.element) c.args.is_float c.args.text.now c.make_row-row.ensures.set c.make_row-row.ensures.element c.make_row-row.ensures.floats
     c.in-Err.error c.in_ok-place-in-Err.place c.in-Err.ensures.refused c.in_ok-place-in-Err.ensures.place
 
-pub returns-in_ok-place-then-not-is_shallow-clause-unread : goal.returns-in_ok-place-then-not-is_shallow-clause-unread
-returns-in_ok-place-then-not-is_shallow-clause-unread c =
+pub returns-then-not-is_shallow-clause-unread : goal.returns-then-not-is_shallow-clause-unread
+returns-then-not-is_shallow-clause-unread c =
     deep_at c.make_row-row.result (lists_seen c.args.schemas.now) (seen_type c.args.element) c.args.is_float c.args.text.now c.make_row-row.ensures.set c.make_row-row.ensures.element c.make_row-row.ensures.floats
-    c.in_ok-place-then-not-is_shallow.place (message_tree c.in-Ok.list) (c.in_ok-place-then-not-is_shallow.ensures.place ∙ c.find_begin-begin.ensures) c.in-Ok.ensures.one (c.is_shallow.ensures.deep (search rules))
-    c.in_ok-place-then-not-is_shallow.ensures.many
+    c.in_ok-place.place (message_tree c.in-Ok.list) (c.in_ok-place.ensures.place ∙ c.find_begin-begin.ensures) c.in-Ok.ensures.one (c.is_shallow.ensures.deep (search rules))
+    c.in_ok-place.ensures.many
 
 pub invariant_of-result : goal.invariant_of-result
 invariant_of-result c =
