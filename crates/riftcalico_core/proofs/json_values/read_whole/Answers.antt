@@ -23,11 +23,13 @@ returns-then-not-is_shallow-clause-unread c =
     c.in_ok-place.ensures.many
 
 pub invariant_of-result : goal.invariant_of-result
-invariant_of-result c =
-    (c.in-Ok.ensures.message, c.is_shallow.ensures.shallow (search rules),
-    readable_at c.make_row-row.result (lists_seen c.args.schemas.now) (seen_type c.args.element) c.args.is_float c.args.text.now c.make_row-row.ensures.set c.make_row-row.ensures.element c.make_row-row.ensures.floats
-    c.values_stand_in_steps.ensures c.rules_are_there.ensures (begun_is c.args.text.now c.skip_blanks.result.now c.begins_whole.result c.skip_blanks.ensures c.begins_whole.ensures (search rules))
-    (message_tree c.in-Ok.list) c.in-Ok.ensures.one)
+invariant_of-result c = (
+  c.in-Ok.ensures.message,
+  c.is_shallow.ensures.shallow (search rules),
+  readable_at c.make_row-row.result (lists_seen c.args.schemas.now) (seen_type c.args.element) c.args.is_float c.args.text.now c.make_row-row.ensures.set c.make_row-row.ensures.element c.make_row-row.ensures.floats
+      c.values_stand_in_steps.ensures c.rules_are_there.ensures (begun_is c.args.text.now c.skip_blanks.result.now c.begins_whole.result c.skip_blanks.ensures c.begins_whole.ensures (search rules))
+      (message_tree c.in-Ok.list) c.in-Ok.ensures.one,
+)
 
 pub returns-clause-read : goal.returns-clause-read
 returns-clause-read c =
