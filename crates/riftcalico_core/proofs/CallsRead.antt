@@ -6,7 +6,7 @@ use Rattle.capnp_schema.specs.Types.{SchemaType}
 use Rattle.capnp_records.specs.Call.{PathStep, Source}
 use Rattle.capnp_edit_calls.specs.ActsSeen.{ActSeen}
 use Rattle.capnp_json_messages.specs.Ones.{is_whole}
-use Rattle.capnp_words.specs.Calls.{CallOp, CallText}
+use Rattle.capnp_words.specs.Calls.{CallText}
 use Rattle.capnp_words.specs.Reads.{Read, read_as}
 use Rattle.capnp_words.specs.Targets.{type_along}
 use Rattle.riftcalico_core.specs.Calls.{IsCallRead, IsSourceGiven, IsSourceRead, IsValueBy, act_given, act_placed, floats_along, from_of, given_type, plain_read}

@@ -12,7 +12,7 @@ use Rattle.capnp_json_text.specs.Faults.{fault_of}
 use Rattle.capnp_json_text.specs.Laws.{StandsInSteps}
 use Rattle.capnp_json_text.specs.Readings.{after_blanks}
 use Rattle.capnp_json_text.specs.Texts.{kind_of}
-use Rattle.capnp_json_text.specs.Values.{Json, json_at, json_by, json_value}
+use Rattle.capnp_json_text.specs.Values.{Json, json_at, json_by}
 use Rattle.capnp_json_text.specs.declared.kinds.Kind.{Kind}
 use Rattle.capnp_json_text.specs.declared.kinds.Kind.TheVariants as kind
 use Rattle.capnp_json_fields.specs.Marks.{has_float_base}
@@ -23,7 +23,7 @@ use Rattle.capnp_from_json.specs.Leaves.{OfElement, Target}
 use Rattle.capnp_from_json.specs.Records.{Rules, all_levels, as_elements, unless, value_of_json}
 use Rattle.capnp_from_json.specs.declared.error.Error.{Error as TextError}
 use Rattle.capnp_from_json.specs.declared.error.Error.TheVariants.{OutOfMemory, Refused, TooLarge}
-use Rattle.capnp_from_json.specs.declared.error.RefusalKind.TheVariants.{NotJson, SizePastFormat, TooDeep}
+use Rattle.capnp_from_json.specs.declared.error.RefusalKind.TheVariants.{SizePastFormat, TooDeep}
 use Rattle.capnp_json_messages.specs.Holders.{IsOneOf, text_element, value_in_root}
 use Rattle.capnp_json_messages.specs.Laws.{RulesAreThere}
 use Rattle.capnp_json_messages.specs.Ones.{IsListIfAsked, IsReadable, element_source, is_elements, is_whole}

@@ -1,5 +1,5 @@
 -- A call is read with its value and its steps, or its value can't be read.
-use Rattle.std.proofs.Common.{Err, List, Ok, ap, refl, ◌∙◌}
+use Rattle.std.proofs.Common.{List, Ok, ap, ◌∙◌}
 use Rattle.std.specs.Option.{option_map}
 use Rattle.capnp_call.specs.Seen.{path_seen}
 use Rattle.capnp_call.specs.declared.calls.Step.{Step}

@@ -1,5 +1,5 @@
 -- A struct or a list is read as JSON, what has a word by that.
-use Rattle.std.proofs.Common.{ap, rules, subst, sym, ◌∙◌, ◌≡◌, true, false}
+use Rattle.std.proofs.Common.{ap, rules, subst, sym, ◌∙◌, ◌≡◌}
 use Rattle.std.specs.Option.{option_map}
 use Rattle.capnp_schema.specs.Accepted.{NamesEntries}
 use Rattle.capnp_schema.specs.Entries.{lists_seen}
