@@ -208,6 +208,12 @@ status=$?
 capnp decode --short examples/sets/floats.capnp Trace < "$scratch/message" > "$scratch/out"
 expect 'floats in lists that words edit' $status 0 '(gain = 1.5, levels = [[-inf, inf, 16777216, 1.5], [-inf, -0.1, inf, 16777216, 1.5]], floats = (value = [2.5]), counts = (value = [2]), total = 3)' \
     '6: get levels.0.1 = inf'
+./riftcalico patch --set "$scratch/floats.set" Trace 'set levels [[1.5],[-0.1,"inf"]]' 'append levels [2]' 'set floats {"value":[2.5]}' \
+    'get levels.1.0' < "$scratch/patched" > "$scratch/message" 2> "$scratch/err"
+status=$?
+capnp decode --short examples/sets/floats.capnp Trace < "$scratch/message" > "$scratch/out"
+expect 'floats in lists as JSON' $status 0 '(gain = 1.5, levels = [[1.5], [-0.1, inf], [2]], floats = (value = [2.5]), total = 3)' \
+    '4: get levels.1.0 = -0.1'
 
 # lists of each kind are edited, and parts copied
 (cd examples && capnp compile -o- kinds.capnp) | ./riftcalico schemas > "$scratch/kinds.set"
@@ -216,7 +222,7 @@ expect 'floats in lists that words edit' $status 0 '(gain = 1.5, levels = [[-inf
     'append texts "a\"b"' 'append texts c d' 'insert texts.0 ' 'append blobs 0x"00ff"' 'resize points 2' 'set points.1.x 5' \
     'copy points.0 points.1' 'resize rows 2' 'append rows.1 -5' 'append rows.1 6' 'remove rows.0' 'append numbers 9' 'copy text texts.1' \
     'copy point points.0' 'append points 1' > "$scratch/out" 2> "$scratch/err"
-expect 'an element without a word' $? 2 '' "25: append points 1: can't be read at 14; wanted: no word, but its fields"
+expect 'an element that is no object' $? 2 '' "25: append points 1: can't be read at 14; wanted: a JSON object"
 ./riftcalico new --set "$scratch/kinds.set" Kinds 'append flags true' 'append flags false' 'insert flags.1 true' 'append voids ()' \
     'append voids ()' 'remove voids.1' 'append wide -1' 'insert wide.0 9223372036854775807' 'append colors blue' 'append colors 7' \
     'append texts "a\"b"' 'append texts c d' 'insert texts.0 ' 'append blobs 0x"00ff"' 'resize points 2' 'set points.1.x 5' \
@@ -225,6 +231,24 @@ expect 'an element without a word' $? 2 '' "25: append points 1: can't be read a
 status=$?
 capnp decode --short examples/kinds.capnp Kinds < "$scratch/message" > "$scratch/out"
 expect 'lists of each kind' $status 0 '(void = void, truth = false, lie = true, int8 = -8, int16 = -16, int32 = -32, int64 = -64, uint8 = 8, uint16 = 16, uint32 = 32, uint64 = 64, color = green, text = "a\"b", point = (x = 5, y = -1), numbers = [1, 2, 3, 9], flags = [true, true, false], voids = [void], wide = [9223372036854775807, -1], colors = [blue, (7)], texts = ["", "a\"b", "c d"], blobs = ["\000\377"], points = [(x = 5, y = -1), (x = 5, y = -1)], rows = [[-5, 6]], none = void)' ''
+
+# structs, lists and groups by their JSON texts: the message is the public tool's, of the same values
+./riftcalico new --set "$scratch/kinds.set" Kinds 'set point {"x":5}' 'set plain {"x":1,"y":2}' 'set numbers []' 'set flags [true,false]' \
+    'set voids [null,null]' 'set wide [1,"-2"]' 'set colors ["red",2]' 'set texts ["a","b\u00e9"]' 'set blobs [[1,2],[255]]' \
+    'set points [{"x":1},{"y":2}]' 'set rows [[1,2],[],[-3]]' 'set named {"name":"n","times":5}' > "$scratch/message" 2> "$scratch/err"
+status=$?
+capnp decode --short examples/kinds.capnp Kinds < "$scratch/message" > "$scratch/out"
+expect 'structs and lists as JSON' $status 0 '(void = void, truth = false, lie = true, int8 = -8, int16 = -16, int32 = -32, int64 = -64, uint8 = 8, uint16 = 16, uint32 = 32, uint64 = 64, color = green, point = (x = 5, y = -1), plain = (x = 1, y = 2), numbers = [], flags = [true, false], voids = [void, void], wide = [1, -2], colors = [red, blue], texts = ["a", "bé"], blobs = ["\001\002", "\377"], points = [(x = 1, y = -1), (x = 0, y = 2)], rows = [[1, 2], [], [-3]], named = (name = "n", times = 5))' ''
+printf '(point = (x = 5), plain = (x = 1, y = 2), numbers = [], flags = [true, false], voids = [void, void], wide = [1, -2], colors = [red, blue], texts = ["a", "bé"], blobs = [0x"01 02", 0x"ff"], points = [(x = 1), (y = 2)], rows = [[1, 2], [], [-3]], named = (name = "n", times = 5))\n' |
+    capnp encode examples/kinds.capnp Kinds > "$scratch/wanted"
+cmp -- "$scratch/message" "$scratch/wanted" || fail 'structs and lists as JSON: the tool makes other bytes'
+./riftcalico patch --set "$scratch/kinds.set" Kinds 'append points {"x":7}' 'insert points.0 {}' 'set points.1 {"x":9}' 'append rows [4]' \
+    'set rows.1 [5,6]' 'get rows.1.0' 'get points.1.x' < "$scratch/message" > "$scratch/patched" 2> "$scratch/err"
+status=$?
+./riftcalico get --set "$scratch/kinds.set" Kinds points rows < "$scratch/patched" > "$scratch/out" 2>> "$scratch/err"
+expect 'elements as JSON' $status 0 '[(x = 0, y = -1), (x = 9, y = -1), (x = 0, y = 2), (x = 7, y = -1)]
+[[1, 2], [5, 6], [-3], [4]]' '6: get rows.1.0 = 5
+7: get points.1.x = 9'
 refused endless '' 66
 
 # met CASE TEXT TOLD: where names meet in JSON, both verbs are refused before they read, and the public tool ends

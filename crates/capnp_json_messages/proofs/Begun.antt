@@ -1,5 +1,5 @@
 -- Parts that are begun, and what is left of the whole once they hold what they are to hold.
-use Rattle.std.proofs.Common.{ℕ, zero, suc, ◌≡◌, ◌<◌, refl, true, false, List, ap, sym, subst, ◌∙◌, length}
+use Rattle.std.proofs.Common.{ℕ, zero, suc, ◌≡◌, ◌<◌, refl, true, List, ap, sym, subst, ◌∙◌, length}
 use Rattle.std.proofs.lemmas.Bool.{true≢false}
 use Rattle.capnp_wire.specs.Edits.{struct_in, with_pointer_tree, with_tree, zero_struct}
 use Rattle.capnp_wire.specs.Place.{struct_tree}

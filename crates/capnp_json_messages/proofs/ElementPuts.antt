@@ -1,5 +1,5 @@
 -- What is written into an element of a list is put into its values.
-use Rattle.std.proofs.Common.{ℕ, zero, suc, ◌≡◌, ◌<◌, inl, inr, refl, Bool, true, false, Some, None, arith, ap, sym, subst, ◌∙◌}
+use Rattle.std.proofs.Common.{ℕ, zero, suc, ◌≡◌, ◌<◌, inl, inr, refl, true, false, Some, None, arith, ap, sym, subst, ◌∙◌}
 use Rattle.std.proofs.lemmas.Bool.{true≢false}
 use Rattle.capnp_wire.specs.Facts.Room.{HasBit_there, HasNumber_there, HasPointer_there}
 use Rattle.capnp_wire.specs.Elements.{HasStruct, reads_list, with_struct_element}

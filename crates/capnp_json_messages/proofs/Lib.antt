@@ -19,3 +19,6 @@ pub mod DataBack
 pub mod IntegersBack
 pub mod HolderReads
 pub mod OneReads
+pub mod OneCopied
+pub mod OneRead
+pub mod OneTaken

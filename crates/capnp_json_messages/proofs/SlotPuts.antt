@@ -1,5 +1,5 @@
 -- What is written into a slot, or into the struct of a group, is put into the record.
-use Rattle.std.proofs.Common.{ℕ, ◌≡◌, refl, true, false, ap, sym, subst, ◌∙◌}
+use Rattle.std.proofs.Common.{ℕ, ◌≡◌, refl, ap, sym, subst, ◌∙◌}
 use Rattle.std.proofs.lemmas.Bool.{true≢false}
 use Rattle.capnp_wire.specs.Tree.{StructTree}
 use Rattle.capnp_schema.specs.FieldLists.{index_of, typed_of}

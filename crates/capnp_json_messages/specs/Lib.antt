@@ -10,3 +10,4 @@ pub mod Rows
 pub mod Messages
 pub mod ReadBack
 pub mod Holders
+pub mod Ones

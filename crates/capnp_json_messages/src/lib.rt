@@ -4,6 +4,7 @@
 pub mod laws;
 pub mod leaf;
 pub mod message;
+pub mod one;
 pub mod opened;
 pub mod put;
 pub mod read_back;

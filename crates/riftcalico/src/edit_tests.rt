@@ -1,4 +1,5 @@
-//! Lists that words edit, and parts that they copy. A row is as those of `rows.rt`; the messages are the public tool's.
+//! Lists that words edit, parts that they copy, and structs and lists that they give as JSON texts. A row is as those of
+//! `rows.rt`; the messages are the public tool's.
 use crate::tests::rows_are_so;
 use std::test::Fail;
 
@@ -153,4 +154,60 @@ const EDITED: &str = "\
 #[test]
 fn lists_are_edited(rt: HostRuntime) -> Result<(), Fail> {
     rows_are_so(&rt, rt.alloc(), EDITED)
+}
+
+/// Structs and lists that are given as JSON texts.
+const GIVEN: &str = "\
+# lists of numbers and of structs
+:new
+:Lists
+:set bytes [1,\"2\"]
+:set items [{\"a\":1},{\"a\":2}]
+<
+=0
+>0000000009000000 0000000000000400 0d00000012000000 0000000000000000 0000000000000000 0500000017000000 \
+    0102000000000000 0800000001000000 0100000000000000 0200000000000000
+
+# groups, of which the second leaves nothing of the first
+:new
+:Shapes
+:set circle {\"r\":5}
+:set tag  { \"n\" : 3, \"u1\" : 9 }
+:get tag.u1
+<
+=0
+>0000000005000000 0000000002000200 0000010003000100 0900000000000000 0000000000000000 0000000000000000
+!3: get tag.u1 = 9
+
+# elements behind, in front of and in place of others; what a struct is not given has its default
+:new
+:Lists
+:append items {\"a\":3}
+:insert items.0 {}
+:set items.1 {\"a\":4}
+:get items.0.a
+:get items.1.a
+:set bytes []
+:append bytes 9
+:get bytes
+:get itemz
+<
+=1
+!4: get items.0.a = 0
+!5: get items.1.a = 4
+!8: get bytes = [1 elements]
+!9: get itemz: refused: 20 FieldNotFound in Lists; near: items
+
+# where the path leads to nothing no value is looked at
+:new
+:Lists
+:set itemz [
+<
+=1
+!1: set itemz [: refused: 20 FieldNotFound in Lists; near: items
+";
+
+#[test]
+fn structs_and_lists_are_given_as_json(rt: HostRuntime) -> Result<(), Fail> {
+    rows_are_so(&rt, rt.alloc(), GIVEN)
 }

@@ -296,6 +296,26 @@ patch|Flat|get\u{1b}a -> 1: get\\u{1b}a: can't be read at 3; usage
 new|Flat|clear a b -> 1: clear a b: can't be read at 7; usage
 ";
 
+/// Values of structs and lists that can't be read, and what is told.
+const UNREADABLE_JSON: &str = "\
+# no such field, a number past its type, a field that is given twice
+new|Lists|set items [{\"a\":1},{\"b\":2}] -> 1: set items [{\"a\":1},{\"b\":2}]: can't be read at 20; wanted: a JSON array
+patch|Lists|append items {\"a\":65536} -> 1: append items {\"a\":65536}: can't be read at 18; wanted: a JSON object
+new|Lists|get t|insert items.0 {\"a\":1,\"a\":2} -> 2: insert items.0 {\"a\":1,\"a\":2}: can't be read at 22; wanted: a JSON object
+# an object is no list, null is none, and neither is a number
+new|Lists|set items {\"a\":1} -> 1: set items {\"a\":1}: can't be read at 10; wanted: a JSON array
+new|Lists|set items  null -> 1: set items  null: can't be read at 11; wanted: a JSON array
+new|Lists|append items 1 -> 1: append items 1: can't be read at 13; wanted: a JSON object
+# no JSON
+new|Lists|set bytes [1,2 -> 1: set bytes [1,2: can't be read at 14; wanted: a JSON array
+new|Lists|set bytes [1]] -> 1: set bytes [1]]: can't be read at 13; wanted: a JSON array
+";
+
+#[test]
+fn json_that_cannot_be_read_is_told_with_its_place(rt: HostRuntime) -> Result<(), Fail> {
+    rows_hold(&rt, rt.alloc(), false, UNREADABLE_JSON)
+}
+
 #[test]
 fn words_that_cannot_be_read_are_told_with_their_place(rt: HostRuntime) -> Result<(), Fail> {
     rows_hold(&rt, rt.alloc(), false, UNREADABLE)

@@ -1,7 +1,9 @@
 pub mod Blamed
 pub mod CallsGiven
+pub mod CallsRead
 pub mod Counted
 pub mod Each
+pub mod EachRead
 pub mod FirstOf
 pub mod HeadedLines
 pub mod JsonTold
@@ -22,3 +24,4 @@ pub mod Unreached
 pub mod Unread
 pub mod ValueTexts
 pub mod WholeAnswers
+pub mod WholeTexts

@@ -1,5 +1,5 @@
 -- The calls and edits that words stand for, under a struct of a set.
-use Rattle.std.specs.Prelude.{ℕ, ◌+◌, List, [], ◌∷◌, Bool, Option, Some, None, Ok, Err, pos}
+use Rattle.std.specs.Prelude.{ℕ, ◌+◌, ◌≡◌, List, [], ◌∷◌, Bool, true, false, Option, Some, None, Ok, Err, pos}
 use Rattle.std.specs.Option.{option_and_then}
 use Rattle.capnp_schema.specs.Schema.{Schemas}
 use Rattle.capnp_schema.specs.Types.{BoolType, DataType, EnumType, IntType, ListType, SchemaType, TextType, UIntType}
@@ -16,6 +16,8 @@ use Rattle.capnp_words.specs.Calls.{CallOp, CallText}
 use Rattle.capnp_words.specs.Reads.{Read, read_as}
 use Rattle.capnp_words.specs.Targets.{type_along}
 use Rattle.capnp_words.specs.Marked.{marked_value_by_word}
+use Rattle.capnp_json_messages.specs.Ones.{is_whole}
+use Rattle.riftcalico_core.specs.JsonValues.{IsWholeGiven}
 
 -- what is given to a set, by the type of what is set
 abbrev pub source_taken : SchemaType → Value → Source
@@ -47,25 +49,34 @@ given_type (text.Append bytes place) t = option_and_then element_of t
 given_type (text.Insert i bytes place) t = option_and_then element_of t
 given_type op t = t
 
--- A value, whose numbers are floats or not. Where there is no type the call is refused for its path, whatever it is given.
-abbrev pub source_read : Schemas → (floats : Bool) → Option SchemaType → (bytes : List ℕ) → (place : ℕ) → Read Source
-source_read set floats None bytes place = Ok VoidSource
-source_read set floats (Some t) bytes place = shifted_read place (read_as (source_taken t) (marked_value_by_word set floats t bytes))
+-- a value that has a word, whose numbers are floats or not
+abbrev pub plain_read : Schemas → (floats : Bool) → SchemaType → (bytes : List ℕ) → (place : ℕ) → Read Source
+plain_read set floats t bytes place = shifted_read place (read_as (source_taken t) (marked_value_by_word set floats t bytes))
+
+-- a value by its type: a struct or a list is given as a JSON text
+abbrev pub IsValueBy : (whole : Bool) → Schemas → (floats : Bool) → SchemaType → (bytes : List ℕ) → (place : ℕ) → Read Source → Type 0
+IsValueBy true set floats t bytes place r = IsWholeGiven set floats t bytes place r
+IsValueBy false set floats t bytes place r = r ≡ plain_read set floats t bytes place
+
+-- Where there is no type the call is refused for its path, whatever it is given.
+abbrev pub IsSourceRead : Schemas → (floats : Bool) → Option SchemaType → (bytes : List ℕ) → (place : ℕ) → Read Source → Type 0
+IsSourceRead set floats None bytes place r = r ≡ Ok VoidSource
+IsSourceRead set floats (Some t) bytes place r = IsValueBy (is_whole t) set floats t bytes place r
 
 -- what a call or an edit is given, under the type of its value; of those that have no value nothing, which is a void here
-abbrev pub source_given : Schemas → (floats : Bool) → Option SchemaType → CallOp → Read Source
-source_given set floats t (text.Set bytes place) = source_read set floats t bytes place
-source_given set floats t (text.Append bytes place) = source_read set floats t bytes place
-source_given set floats t (text.Insert i bytes place) = source_read set floats t bytes place
-source_given set floats t text.Get = Ok VoidSource
-source_given set floats t text.Has = Ok VoidSource
-source_given set floats t text.Which = Ok VoidSource
-source_given set floats t text.Init = Ok VoidSource
-source_given set floats t (text.Initn size) = Ok VoidSource
-source_given set floats t text.Clear = Ok VoidSource
-source_given set floats t (text.Remove i) = Ok VoidSource
-source_given set floats t (text.Resize count) = Ok VoidSource
-source_given set floats t (text.Copy from) = Ok VoidSource
+abbrev pub IsSourceGiven : Schemas → (floats : Bool) → Option SchemaType → CallOp → Read Source → Type 0
+IsSourceGiven set floats t (text.Set bytes place) r = IsSourceRead set floats t bytes place r
+IsSourceGiven set floats t (text.Append bytes place) r = IsSourceRead set floats t bytes place r
+IsSourceGiven set floats t (text.Insert i bytes place) r = IsSourceRead set floats t bytes place r
+IsSourceGiven set floats t text.Get r = r ≡ Ok VoidSource
+IsSourceGiven set floats t text.Has r = r ≡ Ok VoidSource
+IsSourceGiven set floats t text.Which r = r ≡ Ok VoidSource
+IsSourceGiven set floats t text.Init r = r ≡ Ok VoidSource
+IsSourceGiven set floats t (text.Initn size) r = r ≡ Ok VoidSource
+IsSourceGiven set floats t text.Clear r = r ≡ Ok VoidSource
+IsSourceGiven set floats t (text.Remove i) r = r ≡ Ok VoidSource
+IsSourceGiven set floats t (text.Resize count) r = r ≡ Ok VoidSource
+IsSourceGiven set floats t (text.Copy from) r = r ≡ Ok VoidSource
 
 -- the path of what is copied; else none
 abbrev pub from_of : CallOp → List PathStep
@@ -104,5 +115,7 @@ abbrev pub act_given : CallText → Source → ActSeen
 act_given c s = act_placed c.path s (from_of c.op) c.op
 
 -- a call or an edit as it is read, with the type of the root
-abbrev pub call_read : Schemas → (root : SchemaType) → CallText → Read ActSeen
-call_read set root c = read_as (act_given c) (source_given set (floats_along set root c.path) (given_type c.op (type_along set root c.path)) c.op)
+pub record IsCallRead (set : Schemas) (root : SchemaType) (c : CallText) (r : Read ActSeen) : Type 0 where
+  pub source : Read Source
+  pub given : IsSourceGiven set (floats_along set root c.path) (given_type c.op (type_along set root c.path)) c.op source
+  pub act : r ≡ read_as (act_given c) source

@@ -9,7 +9,10 @@ use Rattle.capnp_words.specs.Seen.{op_text_seen}
 use Rattle.capnp_words.specs.declared.value.PlainValue.{PlainValue}
 use Rattle.capnp_words.specs.declared.value.PlainValue.TheVariants as plain
 use Rattle.riftcalico_core.specs.Calls.{act_placed}
+use Rattle.riftcalico_core.specs.JsonValues.{whole_source}
 use Rattle.riftcalico_core.specs.Reads.{Reads}
+use Rattle.riftcalico_core.specs.declared.calls.GivenValue.{GivenValue}
+use Rattle.riftcalico_core.specs.declared.calls.GivenValue.TheVariants as given
 use Rattle.riftcalico_core.specs.declared.calls.ReadCall.{ReadCall}
 use Rattle.riftcalico_core.specs.declared.calls.Unreadable.{Unreadable}
 
@@ -29,9 +32,14 @@ word_value_source (plain.Enum e) = EnumSource (enum_value_number e)
 word_value_source (plain.Text bytes) = TextSource bytes.items
 word_value_source (plain.«Data» bytes) = DataSource bytes.items
 
+-- a value that was read, as it is given
+abbrev pub given_value_source : GivenValue → Source
+given_value_source (given.Plain v) = word_value_source v
+given_value_source (given.Whole w) = whole_source w
+
 -- a call or an edit that was read, with its value and its steps
 abbrev pub given_source : ReadCall → Source
-given_source c = word_value_source c.value
+given_source c = given_value_source c.value
 
 abbrev pub read_act_seen : ReadCall → ActSeen
 read_act_seen c = act_placed (call.path_seen c.steps.items) (given_source c) (call.path_seen c.from.items) (op_text_seen c.word.now.op)

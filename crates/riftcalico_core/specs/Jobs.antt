@@ -15,12 +15,12 @@ use Rattle.capnp_schema.specs.StructHandles.{IsStruct, number_of, set_of}
 use Rattle.capnp_schema.specs.declared.schema.structs.StructSchema.{StructSchema}
 use Rattle.capnp_sets.specs.Message.{HasLargeMessage, IsMessageRefusal, IsPastLimit, message_set}
 use Rattle.capnp_sets.specs.Unfolded.{values_size}
-use Rattle.riftcalico_core.specs.Calls.{call_read, given_type}
+use Rattle.riftcalico_core.specs.Calls.{IsCallRead, given_type}
 use Rattle.riftcalico_core.specs.CallsSeen.{read_act_seen}
 use Rattle.riftcalico_core.specs.Plans.{CallsPlan, CheckPlan, ComparePlan, FromJsonPlan, GetPlan, JsonPlan, Plan, check_plan, compatible_plan, convert_plan, fields_plan, from_json_plan, get_plan, help_plan, json_plan, new_plan, patch_plan, structs_plan, version_plan}
 use Rattle.riftcalico_core.specs.Gets.{queries_of}
 use Rattle.riftcalico_core.specs.Json.{json_queries}
-use Rattle.riftcalico_core.specs.Reads.{each_word_read, value_line_at}
+use Rattle.riftcalico_core.specs.Reads.{AreRead, value_line_at}
 use Rattle.riftcalico_core.specs.Wanted.{wanted_note}
 use Rattle.riftcalico_core.specs.Notes.{name_note}
 use Rattle.riftcalico_core.specs.declared.fault.Blamed.TheVariants as blamed
@@ -113,7 +113,7 @@ pub record IsCheckJob (p : CheckPlan) (set : Schemas) (j : CheckJob) : Type 0 wh
 
 pub record IsCallsJob (p : CallsPlan) (set : Schemas) (j : CallsJob) : Type 0 where
   pub schema : IsNamedStruct set p.root.name j.schema
-  pub read : each_word_read (call_read set (root_type set (number_of j.schema))) 0 p.texts ≡ Ok (map read_act_seen j.calls.items)
+  pub read : AreRead (IsCallRead set (root_type set (number_of j.schema))) 0 p.texts (Ok (map read_act_seen j.calls.items))
   pub words : map (λ w. w.now) j.words.now ≡ p.words
   pub keep_going : j.keep_going ≡ p.keep_going
   pub packed : j.packed ≡ p.packed
@@ -128,7 +128,7 @@ pub record IsValueUnread (p : CallsPlan) (set : Schemas) (line : List ℕ) : Typ
   pub brand : ℕ
   pub named : brand_asked set p.root.name ≡ Some brand
   pub at : ℕ × ℕ
-  pub unread : each_word_read (call_read set (root_type set brand)) 0 p.texts ≡ Err at
+  pub unread : AreRead (IsCallRead set (root_type set brand)) 0 p.texts (Err at)
   pub told : line ≡ value_line_at p.words at (get_or (map (wanted_of set brand) p.texts) at.0 [])
 
 pub record IsCompareJob (p : ComparePlan) (set : Schemas) (j : CompareJob) : Type 0 where

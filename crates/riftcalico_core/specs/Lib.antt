@@ -10,6 +10,7 @@ pub mod FromJson
 pub mod Gets
 pub mod Jobs
 pub mod Json
+pub mod JsonValues
 pub mod Lines
 pub mod Names
 pub mod Near

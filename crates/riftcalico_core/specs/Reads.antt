@@ -21,6 +21,13 @@ abbrev pub each_word_read : {A B : Type 0} → (A → Read B) → ℕ → List A
 each_word_read f i [] = Ok []
 each_word_read f i (x ∷ xs) = joined_reads (at_word i (f x)) (each_word_read f (suc i) xs)
 
+-- the same where what a word is read as is a relation
+pub data AreRead {A B : Type 0} (is : A → Read B → Type 0) : ℕ → List A → Reads (List B) → Type 0 where
+  none : (i : ℕ) → AreRead is i [] (Ok [])
+  more : (i : ℕ) (x : A) (xs : List A) (y : B) (ys : List B) → is x (Ok y) → AreRead is (suc i) xs (Ok ys) → AreRead is i (x ∷ xs) (Ok (y ∷ ys))
+  first : (i : ℕ) (x : A) (xs : List A) (place : ℕ) → is x (Err place) → AreRead is i (x ∷ xs) (Err (i, place))
+  later : (i : ℕ) (x : A) (xs : List A) (y : B) (at : ℕ × ℕ) → is x (Ok y) → AreRead is (suc i) xs (Err at) → AreRead is i (x ∷ xs) (Err at)
+
 -- how that is told: the number of a word among its kind, from 1 on, the word as it is told, and the place
 abbrev pub unreadable_line : (number : ℕ) → (word : List ℕ) → (place : ℕ) → List ℕ
 unreadable_line number word place = decimal number ++ codes ": " ++ told_word word ++ codes ": can't be read at " ++ decimal place ++ 10 ∷ []

@@ -1,5 +1,6 @@
 -- Steps of the code: no contract of a public function stands on them.
 pub mod Json
+pub mod JsonValues
 pub mod Plans
 pub mod RepliesSeen
 pub mod Told

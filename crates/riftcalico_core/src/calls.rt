@@ -1,7 +1,10 @@
 //! Calls and edits that words say, under a struct of a set.
-ghost use Rattle.std.specs.Prelude.{[], ◌≡◌, ◌∷◌, ◌+◌, ◌<◌, IfErr, IfOk, length, map};
+ghost use Rattle.std.specs.Prelude.{[], ◌≡◌, ◌∷◌, ◌+◌, ◌<◌, IfErr, IfOk, IfSome, true, length, map};
 ghost use Rattle.std.specs.Option.{option_map, option_and_then};
 ghost use Rattle.capnp_device.specs.declared.error.ErrorKind.TheVariants.{OutOfMemory};
+ghost use Rattle.capnp_schema.specs.Accepted.{NamesEntries};
+ghost use Rattle.capnp_schema.specs.Entries.{lists_seen};
+ghost use Rattle.capnp_schema.specs.Schema.{Schemas};
 ghost use Rattle.capnp_schema.specs.StructHandles.{IsStruct, number_of, set_of};
 ghost use Rattle.capnp_schema.specs.Types.{seen_type};
 ghost use Rattle.capnp_records.specs.Run.{root_type};
@@ -13,10 +16,13 @@ ghost use Rattle.capnp_words.specs.Calls.{call_at};
 ghost use Rattle.capnp_words.specs.Reads.{read_as};
 ghost use Rattle.capnp_words.specs.Seen as said;
 ghost use Rattle.capnp_words.specs.Targets.{type_along};
-ghost use Rattle.riftcalico_core.specs.Calls.{call_read, element_of, from_of, given_type, member_asked, source_given, source_read, split};
-ghost use Rattle.riftcalico_core.specs.CallsSeen.{all_seen, given_source, read_act_seen, word_value_source};
-ghost use Rattle.riftcalico_core.specs.Reads.{each_word_read};
+ghost use Rattle.riftcalico_core.specs.Calls.{IsCallRead, IsSourceGiven, IsSourceRead, element_of, from_of, given_type, member_asked, plain_read, split};
+ghost use Rattle.riftcalico_core.specs.CallsSeen.{all_seen, given_source, given_value_source, read_act_seen};
+ghost use Rattle.capnp_json_messages.specs.Ones.{is_whole};
+ghost use Rattle.riftcalico_core.specs.JsonValues.{IsWholeGiven};
+ghost use Rattle.riftcalico_core.specs.Reads.{AreRead, each_word_read};
 
+use crate::json_values::{WholeValue, is_whole, read_whole};
 use crate::words::word_at;
 use capnp_base::introspect::{Type, TypeVariant};
 use capnp_call::calls::{Call, Op, Step};
@@ -27,6 +33,7 @@ use capnp_edit_calls::copy::PathCopy;
 use capnp_edit_calls::edit::ListEdit;
 use capnp_queries::floats::has_floats_at;
 use capnp_schema::schema::StructSchema;
+use capnp_schema::set::SchemaSet;
 use capnp_wire::error::Result;
 use capnp_words::call::{CallWord, WordOp, parse_call};
 use capnp_words::marked::parse_marked_value;
@@ -45,13 +52,22 @@ pub struct Unreadable {
 /// What words are read as, or where they can't be.
 pub type Read<T> = std::result::Result<T, Unreadable>;
 
+/// What a call or an edit is given.
+#[derive(Drop)]
+pub enum GivenValue<'s> {
+    /// A value that has a word.
+    Plain(PlainValue<'s>),
+    /// A struct or list, of a JSON text.
+    Whole(WholeValue<'s>),
+}
+
 /// A call or an edit that was read under a schema: what its word says, the steps of its path, the value that it is given, and
 /// the steps of the path of what it copies.
 #[derive(Drop)]
 pub struct ReadCall<'s, 'c> {
     pub word: &'c CallWord,
     pub steps: Vec<Step<'c>>,
-    pub value: PlainValue<'s>,
+    pub value: GivenValue<'s>,
     pub from: Vec<Step<'c>>,
 }
 
@@ -78,7 +94,9 @@ pub fn read_calls(alloc: Global, words: &[&str]) -> Result<Read<Vec<CallWord>>>
 /// The type of the elements of a list.
 #[tactic(auto, using(capnp_schema::specs::Facts::Layers::seen_which))]
 fn find_element_type(list: Type) -> Option<Type>
-    ensures { option_map seen_type result ≡ element_of (seen_type list) }
+    ensures is { option_map seen_type result ≡ element_of (seen_type list) }
+    ensures named { (set : Schemas) → NamesEntries set (seen_type list)
+        → IfSome result (λ t. NamesEntries set (seen_type t)) }
 {
     match list.which() {
         TypeVariant::List(element) => Some(element),
@@ -89,8 +107,9 @@ fn find_element_type(list: Type) -> Option<Type>
 /// The type of the elements of the list at the end of a path under a schema.
 fn find_element_along(schema: StructSchema<'_>, path: &Path) -> Option<Type>
     requires { IsStruct schema }
-    ensures { option_map seen_type result ≡ option_and_then element_of (type_along (set_of schema.entry)
+    ensures is { option_map seen_type result ≡ option_and_then element_of (type_along (set_of schema.entry)
         (root_type (set_of schema.entry) (number_of schema.entry)) (said.path_text_seen path.now)) }
+    ensures named { IfSome result (λ t. NamesEntries (set_of schema.entry) (seen_type t)) }
 {
     find_element_type(target_type(schema, path)?)
 }
@@ -99,8 +118,9 @@ fn find_element_along(schema: StructSchema<'_>, path: &Path) -> Option<Type>
 /// insertion that of the elements there. None where the path leads to nothing.
 pub(crate) fn find_given_type(schema: StructSchema<'_>, call: &CallWord) -> Option<Type>
     requires { IsStruct schema }
-    ensures { option_map seen_type result ≡ given_type (said.op_text_seen call.now.op) (type_along (set_of schema.entry)
+    ensures is { option_map seen_type result ≡ given_type (said.op_text_seen call.now.op) (type_along (set_of schema.entry)
         (root_type (set_of schema.entry) (number_of schema.entry)) (said.path_text_seen call.now.path)) }
+    ensures named { IfSome result (λ t. NamesEntries (set_of schema.entry) (seen_type t)) }
 {
     match &call.op {
         WordOp::Append(_, _) | WordOp::Insert(_, _, _) => find_element_along(schema, &call.path),
@@ -117,6 +137,46 @@ pub(crate) fn find_given_type(schema: StructSchema<'_>, call: &CallWord) -> Opti
     }
 }
 
+/// A struct or a list by its JSON text, or the place in its word where it can't be read. Refused with `OutOfMemory` alone.
+fn read_json_value<'s>(
+    alloc: Global,
+    schemas: &'s SchemaSet,
+    target: Type,
+    floats: bool,
+    value: &[u8],
+    place: usize,
+) -> Result<std::result::Result<GivenValue<'s>, u128>>
+    requires entries { NamesEntries (lists_seen schemas.now) (seen_type target) }
+    requires whole { is_whole (seen_type target) ≡ true }
+    ensures read { IfOk result (λ r. IsWholeGiven (lists_seen schemas.now) floats (seen_type target) value.now place
+        (read_as given_value_source r)) }
+    ensures memory { IfErr result (λ e. e.kind ≡ OutOfMemory) }
+{
+    match read_whole(alloc, schemas, target, floats, value)? {
+        Ok(whole) => Ok(Ok(GivenValue::Whole(whole))),
+        Err(inner) => Ok(Err(place as u128 + inner as u128)),
+    }
+}
+
+/// A value that is no struct and no list, or the place in its word where it can't be read.
+fn read_plain_value<'s>(
+    alloc: Global,
+    schemas: &'s SchemaSet,
+    target: Type,
+    floats: bool,
+    value: &[u8],
+    place: usize,
+) -> Result<std::result::Result<GivenValue<'s>, u128>>
+    ensures read { IfOk result (λ r. read_as given_value_source r
+        ≡ plain_read (lists_seen schemas.now) floats (seen_type target) value.now place) }
+    ensures memory { IfErr result (λ e. e.kind ≡ OutOfMemory) }
+{
+    match parse_marked_value(alloc, schemas, target, floats, value)? {
+        Ok(value) => Ok(Ok(GivenValue::Plain(value))),
+        Err(inner) => Ok(Err(place as u128 + inner as u128)),
+    }
+}
+
 /// A value under its type, whose numbers are floats or not, or the place in its word where it can't be read. A void where
 /// there is no type.
 fn read_given_value<'s>(
@@ -126,19 +186,21 @@ fn read_given_value<'s>(
     floats: bool,
     value: &[u8],
     place: usize,
-) -> Result<std::result::Result<PlainValue<'s>, u128>>
-    requires { IsStruct schema }
-    ensures read { IfOk result (λ r. read_as word_value_source r
-        ≡ source_read (set_of schema.entry) floats (option_map seen_type target) value.now place) }
+) -> Result<std::result::Result<GivenValue<'s>, u128>>
+    requires stands { IsStruct schema }
+    requires entries { IfSome target (λ t. NamesEntries (set_of schema) (seen_type t)) }
+    ensures read { IfOk result (λ r. IsSourceRead (set_of schema.entry) floats (option_map seen_type target) value.now place
+        (read_as given_value_source r)) }
     ensures memory { IfErr result (λ e. e.kind ≡ OutOfMemory) }
 {
     let Some(target) = target else {
-        return Ok(Ok(PlainValue::Void));
+        return Ok(Ok(GivenValue::Plain(PlainValue::Void)));
     };
-    match parse_marked_value(alloc, schema.get_set(), target, floats, value)? {
-        Ok(value) => Ok(Ok(value)),
-        Err(inner) => Ok(Err(place as u128 + inner as u128)),
+    let schemas = schema.get_set();
+    if is_whole(target.which()) {
+        return read_json_value(alloc, schemas, target, floats, value, place);
     }
+    read_plain_value(alloc, schemas, target, floats, value, place)
 }
 
 /// The value that a call or an edit is given under a type, or the place in its word where that can't be read. A void where
@@ -149,10 +211,11 @@ fn read_value<'s>(
     op: &WordOp,
     target: Option<Type>,
     floats: bool,
-) -> Result<std::result::Result<PlainValue<'s>, u128>>
-    requires { IsStruct schema }
-    ensures read { IfOk result (λ r. read_as word_value_source r
-        ≡ source_given (set_of schema.entry) floats (option_map seen_type target) (said.op_text_seen op.now)) }
+) -> Result<std::result::Result<GivenValue<'s>, u128>>
+    requires stands { IsStruct schema }
+    requires entries { IfSome target (λ t. NamesEntries (set_of schema) (seen_type t)) }
+    ensures read { IfOk result (λ r. IsSourceGiven (set_of schema.entry) floats (option_map seen_type target)
+        (said.op_text_seen op.now) (read_as given_value_source r)) }
     ensures memory { IfErr result (λ e. e.kind ≡ OutOfMemory) }
 {
     match op {
@@ -169,7 +232,7 @@ fn read_value<'s>(
         | WordOp::Clear
         | WordOp::Remove(_)
         | WordOp::Resize(_)
-        | WordOp::Copy(_) => Ok(Ok(PlainValue::Void)),
+        | WordOp::Copy(_) => Ok(Ok(GivenValue::Plain(PlainValue::Void))),
     }
 }
 
@@ -225,9 +288,8 @@ fn read_call<'s, 'c>(
     word: &'c CallWord,
 ) -> Result<std::result::Result<ReadCall<'s, 'c>, u128>>
     requires { IsStruct schema }
-    ensures read { IfOk result (λ r. read_as read_act_seen r
-        ≡ call_read (set_of schema.entry) (root_type (set_of schema.entry) (number_of schema.entry))
-        (said.call_text_seen word.now)) }
+    ensures read { IfOk result (λ r. IsCallRead (set_of schema.entry) (root_type (set_of schema.entry) (number_of schema.entry))
+        (said.call_text_seen word.now) (read_as read_act_seen r)) }
     ensures memory { IfErr result (λ e. e.kind ≡ OutOfMemory) }
 {
     let steps = steps_of(alloc, &word.path)?;
@@ -257,9 +319,8 @@ pub fn read_all_calls<'s, 'c>(
     words: &'c [CallWord],
 ) -> Result<Read<Vec<ReadCall<'s, 'c>>>>
     requires { IsStruct schema }
-    ensures read { IfOk result (λ r. all_seen read_act_seen r
-        ≡ each_word_read (call_read (set_of schema.entry) (root_type (set_of schema.entry) (number_of schema.entry))) 0
-        (map said.call_text_seen words.now)) }
+    ensures read { IfOk result (λ r. AreRead (IsCallRead (set_of schema.entry) (root_type (set_of schema.entry)
+        (number_of schema.entry))) 0 (map said.call_text_seen words.now) (all_seen read_act_seen r)) }
     ensures inside { IfOk result (λ r. IfErr r (λ at. at.index < length words.now)) }
     ensures memory { IfErr result (λ e. e.kind ≡ OutOfMemory) }
 {
@@ -275,10 +336,14 @@ pub fn read_all_calls<'s, 'c>(
 
 /// A value as a call is given it.
 #[tactic(auto, using(crate::proofs::PlainGiven::plain_given))]
-fn value_of<'c>(value: &'c PlainValue<'_>) -> Value<'c>
-    ensures { source_of result ≡ word_value_source value.now }
+fn value_of<'c>(value: &'c GivenValue<'_>) -> Result<Value<'c>>
+    ensures source { IfOk result (λ v. source_of v ≡ given_value_source value.now) }
+    ensures memory { IfErr result (λ e. e.kind ≡ OutOfMemory) }
 {
-    value.as_reader()
+    match value {
+        GivenValue::Plain(plain) => Ok(plain.as_reader()),
+        GivenValue::Whole(whole) => whole.as_reader(),
+    }
 }
 
 /// The value of each call and edit, as it is given. Refused with `OutOfMemory` alone.
@@ -288,7 +353,7 @@ pub fn make_values<'a>(alloc: Global, read: &'a [ReadCall<'_, '_>]) -> Result<Ve
 {
     let mut values = Vec::with_capacity(alloc, read.len())?;
     for call in read {
-        values.push(value_of(&call.value))?;
+        values.push(value_of(&call.value)?)?;
     }
     Ok(values)
 }

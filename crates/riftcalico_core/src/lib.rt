@@ -13,6 +13,7 @@ mod from_json;
 mod get;
 pub mod job;
 mod json;
+mod json_values;
 pub mod names;
 mod near;
 mod note;

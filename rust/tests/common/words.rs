@@ -40,7 +40,7 @@ const CALLS: [(&str, &str); 31] = [
 ];
 
 /// Values at the edges of the grammar and of the types.
-const VALUES: [&str; 36] = [
+const VALUES: [&str; 42] = [
     "",
     "()",
     "true",
@@ -77,6 +77,12 @@ const VALUES: [&str; 36] = [
     "mobile",
     "é\u{0}ü",
     "inlineComposite",
+    "{}",
+    "[]",
+    "[1, 2]",
+    "[null]",
+    "{\"a\":5}",
+    "[{\"a\":1},{}]",
 ];
 
 /// Lengths: short, or past what the format can say. None between, which would take gigabytes.
@@ -96,7 +102,7 @@ const LENGTHS: [&str; 12] = [
 ];
 
 /// Characters that mean something in a word, and some that don't.
-const LETTERS: [char; 24] = [
+const LETTERS: [char; 28] = [
     '.',
     '#',
     ' ',
@@ -112,6 +118,10 @@ const LETTERS: [char; 24] = [
     'u',
     '{',
     '}',
+    '[',
+    ']',
+    ':',
+    ',',
     'a',
     'Z',
     '_',

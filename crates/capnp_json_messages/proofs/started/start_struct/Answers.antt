@@ -1,10 +1,7 @@
-use Rattle.std.proofs.Common.{◌≡◌, IsTrue, ap, refl, subst, sym, ◌∙◌}
+use Rattle.std.proofs.Common.{IsTrue, ap, refl, subst, sym, ◌∙◌}
 use Rattle.capnp_wire.specs.Edits.{is_struct}
-use Rattle.capnp_wire.specs.Place.{struct_tree}
 use Rattle.capnp_wire.specs.Tree.{Tree}
 use Rattle.capnp_arena.specs.Built.{built_at}
-use Rattle.capnp_arena.specs.Forest.{tree}
-use Rattle.capnp_arena.specs.Segment.{segment}
 use Rattle.capnp_schema.specs.FieldLists.{typed_of}
 use Rattle.capnp_schema.specs.Types.{is_pointer}
 use Rattle.capnp_records.specs.Writes.Contents.{init_tree}

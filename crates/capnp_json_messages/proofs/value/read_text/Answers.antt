@@ -1,5 +1,5 @@
 -- The root is a new struct, into a field of which the text's value is read.
-use Rattle.std.proofs.Common.{ℕ, ◌≡◌, ap, ◌∙◌}
+use Rattle.std.proofs.Common.{ap, ◌∙◌}
 use Rattle.capnp_arena.specs.Built.{built_at}
 use Rattle.capnp_arena.specs.Message.{message_tree}
 use Rattle.capnp_schema.specs.FieldLists.{field_schema}

@@ -1,5 +1,5 @@
 -- What is read of a part is what is read of the whole behind it; parts that are begun are put into the whole once they are read.
-use Rattle.std.proofs.Common.{rules, ◌≡◌, ◌+◌, ◌-◌, ◌≤◌, length, arith, ap, subst, sym, ◌∙◌, Some, None}
+use Rattle.std.proofs.Common.{rules, ◌≡◌, ◌-◌, length, arith, ap, subst, sym, ◌∙◌}
 use Rattle.std.specs.Prelude.{IfSome}
 use Rattle.std.specs.Option.{option_map}
 use Rattle.capnp_arena.specs.Built.{built_at}

@@ -1,0 +1,50 @@
+-- A call as it is read, by its value, its steps and its path.
+use Rattle.std.proofs.Common.{ℕ, ◌≡◌, ◌∙◌, Bool, true, false, List, Option, Some, Result, Ok, Err, IfErr, IfOk, IsOk, ap, subst, sym}
+use Rattle.std.proofs.lemmas.Bool.{true≢false}
+use Rattle.capnp_schema.specs.Schema.{Schemas}
+use Rattle.capnp_schema.specs.Types.{SchemaType}
+use Rattle.capnp_records.specs.Call.{PathStep, Source}
+use Rattle.capnp_edit_calls.specs.ActsSeen.{ActSeen}
+use Rattle.capnp_json_messages.specs.Ones.{is_whole}
+use Rattle.capnp_words.specs.Calls.{CallText}
+use Rattle.capnp_words.specs.Reads.{Read, read_as}
+use Rattle.capnp_words.specs.Targets.{type_along}
+use Rattle.riftcalico_core.specs.Calls.{IsCallRead, IsSourceGiven, IsSourceRead, IsValueBy, act_given, act_placed, floats_along, from_of, given_type, plain_read}
+use Rattle.riftcalico_core.specs.JsonValues.{IsWholeGiven}
+
+-- ---- what was answered ----
+
+pub with_ok : {A E : Type 0} (P Q : A → Type 0) (r : Result A E) → IfOk r P → ((x : A) → P x → Q x) → IfOk r Q
+with_ok P Q (Ok x) h f = f x h
+with_ok P Q (Err e) h f = tt {0}
+
+pub never : {A E : Type 0} (P : E → Type 0) (r : Result A E) → IsOk r → IfErr r P
+never P (Ok x) is = tt {0}
+never P (Err e) is = absurd (true≢false (sym is))
+
+-- ---- what is read ----
+
+pub act_is : (c : CallText) (steps from : List PathStep) (s : Source) → steps ≡ c.path → from ≡ from_of c.op → act_placed steps s from c.op ≡ act_given c s
+act_is c steps from s path copied = ap (λ (p : List PathStep). act_placed p s from c.op) path ∙ ap (λ (p : List PathStep). act_placed c.path s p c.op) copied
+
+pub call_is : (set : Schemas) (root : SchemaType) (c : CallText) (floats : Bool) (target : Option SchemaType) (source : Read Source) (r : Read ActSeen) → floats ≡ floats_along set root c.path
+    → target ≡ given_type c.op (type_along set root c.path) → IsSourceGiven set floats target c.op source → r ≡ read_as (act_given c) source → IsCallRead set root c r
+call_is set root c floats target source r floats_are of given act = record {
+  source = source;
+  given = subst (λ (t : Option SchemaType). IsSourceGiven set (floats_along set root c.path) t c.op source) of (subst (λ (q : Bool). IsSourceGiven set q target c.op source) floats_are given);
+  act = act;
+}
+
+-- ---- values by their type ----
+
+pub source_whole : (set set' : Schemas) (floats : Bool) (o : Option SchemaType) (t : SchemaType) (bytes : List ℕ) (place : ℕ) (r : Read Source) → set' ≡ set → o ≡ Some t → is_whole t ≡ true
+    → IsWholeGiven set' floats t bytes place r → IsSourceRead set floats o bytes place r
+source_whole set set' floats o t bytes place r same of whole given =
+    subst (λ (p : Option SchemaType). IsSourceRead set floats p bytes place r) (sym of)
+    (subst (λ (q : Bool). IsValueBy q set floats t bytes place r) (sym whole) (subst (λ (x : Schemas). IsWholeGiven x floats t bytes place r) same given))
+
+pub source_plain : (set set' : Schemas) (floats : Bool) (o : Option SchemaType) (t : SchemaType) (bytes : List ℕ) (place : ℕ) (r : Read Source) → set' ≡ set → o ≡ Some t → is_whole t ≡ false
+    → r ≡ plain_read set' floats t bytes place → IsSourceRead set floats o bytes place r
+source_plain set set' floats o t bytes place r same of plain given =
+    subst (λ (p : Option SchemaType). IsSourceRead set floats p bytes place r) (sym of)
+    (subst (λ (q : Bool). IsValueBy q set floats t bytes place r) (sym plain) (given ∙ ap (λ (x : Schemas). plain_read x floats t bytes place) same))
