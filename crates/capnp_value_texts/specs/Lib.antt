@@ -1,5 +1,6 @@
 pub mod Calls
 pub mod Errors
+pub mod Laws
 pub mod Lengths
 pub mod Made
 pub mod Seen
