@@ -1,5 +1,5 @@
 -- What is printed of a value that holds no others is read as the call that sets it.
-use Rattle.std.proofs.Common.{Option, pos, negsuc, decimal, codes, flat_map, slice_get, ◌≡◌, ℕ, zero, suc, ◌-◌, ◌*◌, ◌^◌, ◌<◌, ◌≤◌, List, [], ◌∷◌, ◌++◌, length, Bool, true, false, cond, map, Some, None, Ok, refl, ap, sym, ◌∙◌, subst, arith}
+use Rattle.std.proofs.Common.{pos, negsuc, decimal, codes, flat_map, slice_get, ◌≡◌, ℕ, zero, suc, ◌-◌, ◌*◌, ◌^◌, ◌<◌, ◌≤◌, List, [], ◌∷◌, ◌++◌, Bool, true, false, cond, map, Ok, refl, ap, sym, ◌∙◌, subst, arith}
 use Rattle.std.specs.List.{AllByRecursion, list_all}
 use Rattle.std.specs.Char.{is_ascii}
 use Rattle.std.specs.Fmt.{debug_escape, signed_decimal}
@@ -9,18 +9,17 @@ use Rattle.std.proofs.lemmas.Bool.Decides.{nat_tests}
 use Rattle.std.proofs.lemmas.Str.{IsUtf8-from_ascii, is_utf8-from_IsUtf8}
 use Rattle.capnp_schema.specs.Schema.{Enumerant, Schemas, TypedField, enum_at}
 use Rattle.capnp_schema.specs.Types.{SchemaType, VoidType, BoolType, IntType, UIntType, EnumType, TextType, DataType, StructType, ListType, AnyPointerType}
-use Rattle.capnp_records.specs.Call.{Call}
 use Rattle.capnp_records.specs.Facts.Spelled.{same_said}
 use Rattle.capnp_records.specs.Record as value
 use Rattle.capnp_records.specs.Record.{Value}
 use Rattle.capnp_records.specs.Text.{data_text, name_or, quoted_text, said_text, text_of}
 use Rattle.capnp_json_fields.specs.Marks.{is_float}
-use Rattle.capnp_words.specs.Laws.{AreNames, IsWritable, PrintedValuesAreRead}
+use Rattle.capnp_words.specs.Laws.{IsWritable, PrintedValuesAreRead}
 use Rattle.capnp_words.specs.Marked.{marked_value_by_word}
 use Rattle.capnp_words.specs.Values.{greatest_signed, greatest_unsigned, value_by_word}
 use Rattle.capnp_value_texts.specs.Calls.{PartsMake, at_place, field_of_text, field_target, fields_calls, parts_calls, set_call, value_calls}
-use Rattle.capnp_value_texts.specs.Errors.{Read, read_as, read_then}
-use Rattle.capnp_value_texts.specs.Laws.{HasLeafNames, IsLeafName, PrintedLeavesAreSet, is_leaf_byte}
+use Rattle.capnp_value_texts.specs.Errors.{read_as, read_then}
+use Rattle.capnp_value_texts.specs.Laws.{HasLeafNames, IsLeafName, PrintedLeavesAreSet}
 use Rattle.capnp_value_texts.specs.Written.{Fields, NoPart, parts_within, written, written_within}
 use Rattle.capnp_value_texts.proofs.LeavesStand.{StandsAlone, data_stands, leaf_alone, negative_stands, number_stands, plain_stands, text_stands}
 

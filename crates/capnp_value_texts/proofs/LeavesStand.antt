@@ -1,5 +1,5 @@
 -- What is printed of a value that holds no others is one leaf.
-use Rattle.std.proofs.Common.{decimal, codes, flat_map, ◌≡◌, ℕ, zero, suc, ◌+◌, ◌-◌, ◌/◌, ◌%◌, ◌^◌, ◌<◌, ◌≤◌, ◌==◌, ◌&&◌, not, nat_lt, List, [], ◌∷◌, ◌++◌, drop, get_or, length, take, Bool, true, false, cond, None, Ok, refl, ap, sym, ◌∙◌, append_assoc, append-nil, length-append, subst, arith}
+use Rattle.std.proofs.Common.{decimal, flat_map, ◌≡◌, ℕ, zero, suc, ◌+◌, ◌-◌, ◌/◌, ◌%◌, ◌^◌, ◌<◌, ◌≤◌, ◌==◌, ◌&&◌, not, nat_lt, List, [], ◌∷◌, ◌++◌, drop, get_or, length, take, Bool, true, false, None, Ok, refl, ap, sym, ◌∙◌, append_assoc, append-nil, length-append, subst, arith}
 use Rattle.std.specs.List.{AllByRecursion, list_all}
 use Rattle.std.specs.Char.{encode_utf8, is_ascii}
 use Rattle.std.specs.Char.Escape.{hex_digit_at}
@@ -7,10 +7,10 @@ use Rattle.std.specs.Fmt.{debug_escape, digits}
 use Rattle.std.proofs.lemmas.Bool.Decides.{nat_tests}
 use Rattle.std.proofs.lemmas.Fmt.{decimal_by_steps, decimal_nonempty}
 use Rattle.capnp_json_text.specs.Readings.{after_blanks, is_blank}
-use Rattle.capnp_value_texts.specs.Errors.{Read, read_then}
+use Rattle.capnp_value_texts.specs.Errors.{read_then}
 use Rattle.capnp_value_texts.specs.Laws.{is_leaf_byte}
 use Rattle.capnp_value_texts.specs.Lengths.{ends_leaf, is_end, leaf_length, next_within}
-use Rattle.capnp_value_texts.specs.Written.{Leaf, Written, at_end, bracket_of, leaf_at, leaf_of, written, written_within}
+use Rattle.capnp_value_texts.specs.Written.{Leaf, at_end, bracket_of, leaf_at, leaf_of, written, written_within}
 use Rattle.capnp_value_texts.specs.declared.lengths.Within.{Within}
 use Rattle.capnp_value_texts.specs.declared.lengths.Within.TheVariants.{Plain, Quoted, Escaped}
 use Rattle.capnp_value_texts.proofs.Grammar.{at_leaf}
