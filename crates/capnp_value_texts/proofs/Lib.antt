@@ -3,6 +3,7 @@ pub mod Found
 pub mod Grammar
 pub mod LeavesSet
 pub mod LeavesStand
+pub mod LinesRead
 pub mod Making
 pub mod PlainGiven
 pub mod Refusals

@@ -1,5 +1,6 @@
 //! What holds of values that are printed, as contracts of functions that do nothing.
 ghost use Rattle.capnp_value_texts.specs.Laws.{PrintedLeavesAreSet};
+ghost use Rattle.capnp_value_texts.specs.Lines.{LinesAreRead};
 
 use capnp_words::laws::printed_values_are_read;
 
@@ -11,3 +12,8 @@ pub fn printed_leaves_are_set()
 {
     printed_values_are_read();
 }
+
+/// What is written on one line, with names, commas and brackets as the printer has them, is read as that, with each place.
+pub fn lines_are_read()
+    ensures { LinesAreRead }
+{}
