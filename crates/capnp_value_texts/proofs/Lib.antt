@@ -1,6 +1,9 @@
 pub mod Added
 pub mod Found
 pub mod Grammar
+pub mod LeavesSet
+pub mod LeavesStand
+pub mod LinesRead
 pub mod Making
 pub mod PlainGiven
 pub mod Refusals

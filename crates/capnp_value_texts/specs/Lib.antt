@@ -1,6 +1,8 @@
 pub mod Calls
 pub mod Errors
+pub mod Laws
 pub mod Lengths
+pub mod Lines
 pub mod Made
 pub mod Seen
 pub mod Steps

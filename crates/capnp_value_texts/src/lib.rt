@@ -7,6 +7,7 @@
 
 pub mod calls;
 pub mod error;
+pub mod laws;
 mod leaf;
 mod lengths;
 pub mod made;
