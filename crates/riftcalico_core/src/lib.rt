@@ -5,10 +5,13 @@
 mod all_faults;
 pub mod answer;
 pub mod calls;
+mod change_line;
 mod compare;
 mod depth;
+mod diff;
 mod expand;
 pub mod fault;
+mod field_names;
 mod from_json;
 mod get;
 pub mod job;

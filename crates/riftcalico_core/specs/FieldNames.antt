@@ -1,0 +1,44 @@
+-- Paths with fields by their names, where these are plain.
+use Rattle.std.specs.Prelude.{ℕ, List, [], ◌∷◌, Bool, true, false, not, ◌&&◌, ◌||◌, ◌==◌, Option, Some, None, slice_get}
+use Rattle.std.specs.Char.{is_ascii_alphanumeric, is_ascii_digit}
+use Rattle.capnp_records.specs.Call.{ElementAt, FieldNamed, FieldNumber, PathStep}
+use Rattle.capnp_schema.specs.Query.{field_named, records_of}
+use Rattle.capnp_schema.specs.Schema.{Field, Schemas}
+use Rattle.capnp_schema.specs.Types.{SchemaType, StructType}
+use Rattle.capnp_words.specs.Targets.{type_behind}
+
+-- a letter, a digit or an underscore
+abbrev pub is_name_byte : ℕ → Bool
+is_name_byte b = is_ascii_alphanumeric b || (b == 95)
+
+abbrev pub are_name_bytes : List ℕ → Bool
+are_name_bytes [] = true
+are_name_bytes (b ∷ bs) = is_name_byte b && are_name_bytes bs
+
+-- a name that stands in a path as it is
+abbrev pub is_plain_name : List ℕ → Bool
+is_plain_name [] = false
+is_plain_name (b ∷ bs) = not (is_ascii_digit b) && are_name_bytes (b ∷ bs)
+
+abbrev pub is_index : ℕ → Option ℕ → Bool
+is_index i None = false
+is_index i (Some j) = i == j
+
+abbrev pub by_name : (named : Bool) → ℕ → (name : List ℕ) → PathStep
+by_name true i name = FieldNamed name
+by_name false i name = FieldNumber i
+
+-- a field by its name, where that is plain and is found again, and else by its number
+abbrev pub named_field : List Field → ℕ → Option Field → PathStep
+named_field fields i None = FieldNumber i
+named_field fields i (Some f) = by_name (is_plain_name f.name && is_index i (field_named fields f.name)) i f.name
+
+abbrev pub named_step : Schemas → SchemaType → PathStep → PathStep
+named_step set (StructType b g) (FieldNumber i) = named_field (records_of set b) i (slice_get (records_of set b) i)
+named_step set t s = s
+
+-- the same of each step of a path from a type on; what fits nothing stays as it is
+abbrev pub named_path : Schemas → Option SchemaType → List PathStep → List PathStep
+named_path set None steps = steps
+named_path set (Some t) [] = []
+named_path set (Some t) (s ∷ steps) = named_step set t s ∷ named_path set (type_behind set t s) steps

@@ -1,0 +1,326 @@
+//! The line of a change: the word of its call, as `patch` reads it.
+ghost use Rattle.std.specs.Prelude.{true, ◌≡◌, ◌≤◌, ◌++◌, ◌∷◌, [], IfErr, IfOk, MatchOption, codes, length, map};
+ghost use Rattle.capnp_call.specs.Seen.{path_seen, step_seen};
+ghost use Rattle.capnp_device.specs.declared.error.ErrorKind.TheVariants.{OutOfMemory};
+ghost use Rattle.capnp_diffs.specs.Changes.{same_leaf};
+ghost use Rattle.capnp_dynamic_readers.specs.Seen.{value_seen};
+ghost use Rattle.capnp_records.specs.Call.{PathStep};
+ghost use Rattle.capnp_records.specs.Record.{Number};
+ghost use Rattle.capnp_records.specs.Run.{root_type};
+ghost use Rattle.capnp_schema.specs.Entries.{lists_seen};
+ghost use Rattle.capnp_schema.specs.StructHandles.{IsStruct, number_of, set_of};
+ghost use Rattle.capnp_words.specs.Calls.{Clear, Init, op_word};
+ghost use Rattle.capnp_words.specs.Seen.{word_value_seen};
+ghost use Rattle.riftcalico_core.specs.ChangeLines.{IsLeafWord, IsLeafless, IsOpLine, IsPutWord, IsValueWord, IsWordless, cause_name, cause_number, change_path, change_steps, is_own, is_read_under, set_heading};
+ghost use Rattle.riftcalico_core.specs.Replies.{types_along};
+ghost use Rattle.riftcalico_core.specs.Steps.RepliesSeen.{along_seen};
+
+use crate::field_names::name_path;
+use crate::get::{get_path_word, print_value, put_behind};
+use crate::note::get_words;
+use crate::replies::{Unknown, walk_types};
+use capnp_base::introspect::{Type, TypeVariant};
+use capnp_call::calls::{Op, Step};
+use capnp_diffs::change::Change;
+use capnp_dynamic_readers::dynamic_value::Reader as Value;
+use capnp_json::error::JsonError;
+use capnp_json::forms::Form;
+use capnp_json::json::to_json_as;
+use capnp_queries::floats::get_form_at;
+use capnp_schema::schema::StructSchema;
+use capnp_schema::set::SchemaSet;
+use capnp_wire::error::{Error, ErrorKind, Result};
+use capnp_words::marked::parse_marked_value;
+use capnp_words::value::PlainValue;
+use std::alloc::Global;
+use std::str;
+
+/// Why a value that a call puts has no word.
+#[derive(Clone, Copy, Debug, PartialEq, Eq)]
+pub(crate) enum NoWord {
+    /// It has no text or no JSON, or none within the limit.
+    Refused(JsonError),
+    /// What is printed of it is read as another value: a float that is no number, with other bits than the one of `nan`.
+    Unread,
+}
+
+impl NoWord {
+    /// Whether no message is refused so.
+    pub(crate) fn is_own(self) -> bool
+        ensures { result ≡ is_own self }
+    {
+        match self {
+            NoWord::Unread => true,
+            NoWord::Refused(JsonError::UntypedHasNoJson | JsonError::TextNotUtf8) => true,
+            NoWord::Refused(
+                JsonError::Read(_) | JsonError::OutOfMemory | JsonError::TooLarge,
+            ) => false,
+        }
+    }
+
+    /// The number by which it is told.
+    pub(crate) fn number(self) -> u32
+        ensures { result ≡ cause_number self }
+    {
+        match self {
+            NoWord::Unread => 75,
+            NoWord::Refused(error) => error.number(),
+        }
+    }
+
+    /// Its name.
+    pub(crate) fn name(self) -> &'static str
+        ensures { result.now ≡ cause_name self }
+    {
+        match self {
+            NoWord::Unread => "ValueHasNoWord",
+            NoWord::Refused(error) => error.name(),
+        }
+    }
+}
+
+/// A value's word, or why it has none.
+pub(crate) type Worded = std::result::Result<Vec<u8>, NoWord>;
+
+/// The refusal of a text.
+fn find_cause(error: Error) -> NoWord {
+    match error.kind {
+        ErrorKind::OutOfMemory => NoWord::Refused(JsonError::OutOfMemory),
+        ErrorKind::TooLarge => NoWord::Refused(JsonError::TooLarge),
+        kind => NoWord::Refused(JsonError::Read(kind)),
+    }
+}
+
+/// An integer by its sign and its size: of one below zero, how far it is below -1.
+fn split(number: i64) -> (bool, u64) {
+    if number < 0 {
+        (true, (-(number + 1)) as u64)
+    } else {
+        (false, number as u64)
+    }
+}
+
+/// The integer of a value that is one.
+fn integer_of(value: Value<'_>) -> Option<(bool, u64)> {
+    match value {
+        Value::Int8(x) => Some(split(x as i64)),
+        Value::Int16(x) => Some(split(x as i64)),
+        Value::Int32(x) => Some(split(x as i64)),
+        Value::Int64(x) => Some(split(x)),
+        Value::UInt8(x) => Some((false, x as u64)),
+        Value::UInt16(x) => Some((false, x as u64)),
+        Value::UInt32(x) => Some((false, x as u64)),
+        Value::UInt64(x) => Some((false, x)),
+        _ => None,
+    }
+}
+
+/// Whether two values that are no integers are the same, of those that have no parts.
+fn is_same_other(one: Value<'_>, another: Value<'_>) -> bool {
+    match one {
+        Value::Void => matches!(another, Value::Void),
+        Value::Bool(x) => match another {
+            Value::Bool(y) => x == y,
+            _ => false,
+        },
+        Value::Enum(x) => match another {
+            Value::Enum(y) => x.get_value() == y.get_value(),
+            _ => false,
+        },
+        Value::Text(x) => match another {
+            Value::Text(y) => x.0 == y.0,
+            _ => false,
+        },
+        Value::Data(x) => match another {
+            Value::Data(y) => x == y,
+            _ => false,
+        },
+        _ => false,
+    }
+}
+
+/// Whether a word's value is a value.
+fn is_same(value: Value<'_>, read: &PlainValue<'_>) -> bool
+    ensures { result ≡ same_leaf (value_seen value.entry) (word_value_seen read.now) }
+{
+    let other = read.as_reader();
+    match integer_of(value) {
+        Some(x) => match integer_of(other) {
+            Some(y) => x.0 == y.0 && x.1 == y.1,
+            None => false,
+        },
+        None => is_same_other(value, other),
+    }
+}
+
+/// Whether a word is read back as a value, under the type that stands at its path. Refused with `OutOfMemory` alone.
+fn is_read_back(
+    alloc: Global,
+    schemas: &SchemaSet,
+    target: std::result::Result<Type, Unknown<'_>>,
+    floats: bool,
+    value: Value<'_>,
+    word: &[u8],
+) -> Result<bool>
+    ensures read { IfOk result (λ read. read ≡ is_read_under (lists_seen schemas.now) floats (along_seen target.entry)
+        (value_seen value.entry) word.now) }
+    ensures memory { IfErr result (λ e. e.kind ≡ OutOfMemory) }
+{
+    let Ok(target) = target else {
+        return Ok(false);
+    };
+    match parse_marked_value(alloc, schemas, target, floats, word)? {
+        Ok(read) => Ok(is_same(value, &read)),
+        Err(_) => Ok(false),
+    }
+}
+
+/// Whether a value is a text that is not UTF-8.
+fn is_no_utf8(value: Value<'_>) -> bool {
+    match value {
+        Value::Text(text) => str::from_utf8(text.0).is_err(),
+        _ => false,
+    }
+}
+
+/// The word of a value without parts, of at most so many bytes: what is printed of it, which is read back as the value.
+fn get_leaf_word(
+    alloc: Global,
+    schemas: &SchemaSet,
+    target: std::result::Result<Type, Unknown<'_>>,
+    floats: bool,
+    value: Value<'_>,
+    limit: u64,
+) -> Worded {
+    if is_no_utf8(value) {
+        return Err(NoWord::Refused(JsonError::TextNotUtf8));
+    }
+    let word = match print_value(alloc, value, floats, false, limit) {
+        Ok(word) => word,
+        Err(error) => return Err(find_cause(error)),
+    };
+    match is_read_back(alloc, schemas, target, floats, value, &word) {
+        Ok(true) => Ok(word),
+        Ok(false) => Err(NoWord::Unread),
+        Err(error) => Err(find_cause(error)),
+    }
+}
+
+/// The JSON of a struct or a list on one line, of at most so many bytes.
+fn get_whole_word(alloc: Global, value: Value<'_>, form: Form, limit: u64) -> Worded {
+    match to_json_as(alloc, value, form, false, limit as usize) {
+        Ok(json) => Ok(json),
+        Err(why) => Err(NoWord::Refused(why)),
+    }
+}
+
+/// The word of a value that is put at a path, of at most so many bytes.
+fn get_value_word(
+    alloc: Global,
+    schema: StructSchema<'_>,
+    path: &[Step<'_>],
+    value: Value<'_>,
+    limit: u64,
+) -> Worded
+    requires { IsStruct schema }
+    ensures word { IfOk result (λ word. IsPutWord (set_of schema.entry) (number_of schema.entry) (path_seen path.now)
+        value.entry word.items) }
+    ensures within { IfOk result (λ word. length word.items ≤ limit) }
+{
+    let form = get_form_at(schema, path);
+    match value {
+        Value::Struct(_) | Value::List(_) => get_whole_word(alloc, value, form, limit),
+        Value::AnyPointer(_) => Err(NoWord::Refused(JsonError::UntypedHasNoJson)),
+        _ => {
+            let root = Type::from(TypeVariant::Struct(schema.into()));
+            let schemas = schema.get_set();
+            let target = walk_types(schemas, root, path);
+            get_leaf_word(alloc, schemas, target, form.floats, value, limit)
+        }
+    }
+}
+
+/// The path of a change, with its fields by their names. Refused with `OutOfMemory` alone.
+pub(crate) fn get_change_path<'a>(
+    alloc: Global,
+    schema: StructSchema<'a>,
+    change: &Change<'a>,
+) -> Result<Vec<Step<'a>>>
+    requires { IsStruct schema }
+    ensures path { IfOk result (λ path. path_seen path.items ≡ change_path (set_of schema.entry) (number_of schema.entry)
+        change.now) }
+    ensures memory { IfErr result (λ e. e.kind ≡ OutOfMemory) }
+{
+    let mut steps = Vec::with_capacity(alloc, change.path.len() + 1)?;
+    steps.extend_from_slice(&change.path)?;
+    steps.push(change.last)?;
+    name_path(alloc, schema, &steps)
+}
+
+/// What a call is called, and its path. Refused with `OutOfMemory` alone.
+fn get_start(alloc: Global, verb: &str, path: &[Step<'_>], end: &str) -> Result<Vec<u8>> {
+    let words = get_words(alloc, path)?;
+    let path = get_path_word(words.as_str());
+    let start = format!(in alloc; "{verb}{path}{end}")?;
+    Ok(start.into_bytes())
+}
+
+/// The line of a call that is given nothing, of at most so many bytes.
+fn get_short_line(alloc: Global, verb: &str, path: &[Step<'_>], limit: u64) -> Worded {
+    let line = match get_start(alloc, verb, path, "") {
+        Ok(line) => line,
+        Err(error) => return Err(find_cause(error)),
+    };
+    if line.len() as u64 > limit {
+        return Err(NoWord::Refused(JsonError::TooLarge));
+    }
+    Ok(line)
+}
+
+/// The line of a call that puts a value, of at most so many bytes.
+fn get_set_line(
+    alloc: Global,
+    schema: StructSchema<'_>,
+    path: &[Step<'_>],
+    value: Value<'_>,
+    limit: u64,
+) -> Worded {
+    let start = match get_start(alloc, "set ", path, " ") {
+        Ok(start) => start,
+        Err(error) => return Err(find_cause(error)),
+    };
+    let length = start.len() as u64;
+    if length > limit {
+        return Err(NoWord::Refused(JsonError::TooLarge));
+    }
+    let word = match get_value_word(alloc, schema, path, value, limit - length) {
+        Ok(word) => word,
+        Err(why) => return Err(why),
+    };
+    match put_behind(start, &word) {
+        Ok(line) => Ok(line),
+        Err(error) => Err(find_cause(error)),
+    }
+}
+
+/// The line of a change along a path, of at most so many bytes; or why it has none.
+pub(crate) fn get_line(
+    alloc: Global,
+    schema: StructSchema<'_>,
+    path: &[Step<'_>],
+    op: Op<'_>,
+    limit: u64,
+) -> Worded
+    requires { IsStruct schema }
+    ensures line { IfOk result (λ line. IsOpLine (set_of schema.entry) (number_of schema.entry) (path_seen path.now)
+        op.entry line.items) }
+    ensures within { IfOk result (λ line. length line.items ≤ limit) }
+{
+    match op {
+        Op::Set(value) => get_set_line(alloc, schema, path, value, limit),
+        Op::Init => get_short_line(alloc, "init ", path, limit),
+        Op::Get | Op::Has | Op::Which | Op::Initn(_) | Op::Clear => {
+            get_short_line(alloc, "clear ", path, limit)
+        }
+    }
+}

@@ -1,0 +1,226 @@
+//! The calls that make one message into another, as lines that `patch` reads.
+ghost use Rattle.std.specs.Prelude.{◌≡◌, ◌≢◌, ◌⊎◌, IfErr, IfOk};
+ghost use Rattle.capnp_device.specs.declared.error.ErrorKind.TheVariants.{OutOfMemory};
+ghost use Rattle.capnp_schema.specs.StructHandles.{IsStruct};
+ghost use Rattle.riftcalico_core.specs.Diffs.{IsDiffAnswer, IsNotDiffed};
+ghost use Rattle.riftcalico_core.specs.declared.fault.Blamed.TheVariants.{Calls, Input};
+
+use crate::answer::{Answer, Output, answer_quietly};
+use crate::change_line::{NoWord, get_change_path, get_line};
+use crate::fault::{Blamed, Fault, Faulty, blame, get_fault};
+use crate::get::{add_line, find_fault};
+use crate::job::DiffJob;
+use crate::note::get_part_note;
+use crate::place::tell_path;
+use capnp_call::calls::Step;
+use capnp_diffs::change::Change;
+use capnp_diffs::diff::find_changes;
+use capnp_dynamic_readers::dynamic_struct;
+use capnp_json::error::JsonError;
+use capnp_packed::received::read_message;
+use capnp_schema::schema::StructSchema;
+use capnp_wire::error::{Error, ErrorKind, Result};
+use capnp_wire::message::Reader;
+use std::alloc::Global;
+
+/// Why changes have no lines.
+#[derive(Drop)]
+pub(crate) enum NoLines {
+    /// A refusal.
+    Refused(Fault),
+    /// What tells that a value has no word, for which no message is refused.
+    Told(String),
+}
+
+/// The root of the first message in these bytes. Refused as the message is, or its root where it can't be read as a struct.
+fn read_root<'a>(
+    alloc: Global,
+    schema: StructSchema<'a>,
+    bytes: &'a [u8],
+) -> Result<dynamic_struct::Reader<'a>> {
+    let message = Reader::new(alloc, bytes)?;
+    let root = message.get_root().get_struct()?;
+    Ok(dynamic_struct::Reader::new(root, schema))
+}
+
+/// A refusal that blames the newer message in place of the older one.
+fn blame_newer(fault: Fault) -> Fault {
+    Fault {
+        error: fault.error,
+        blamed: Blamed::Calls,
+        note: fault.note,
+    }
+}
+
+/// The refusal of a message's first part that can't be read, if it is of this kind.
+fn find_kind(
+    alloc: Global,
+    schema: StructSchema<'_>,
+    message: &[u8],
+    kind: ErrorKind,
+) -> Result<Option<Fault>> {
+    match find_fault(alloc, schema, &[], message)? {
+        Some(fault) => {
+            if fault.error.kind == kind {
+                Ok(Some(fault))
+            } else {
+                Ok(None)
+            }
+        }
+        None => Ok(None),
+    }
+}
+
+/// Why there are no changes: the first part of the older message that can't be read, or else of the newer one; or what no call
+/// makes of the newer one.
+fn explain_changes(
+    alloc: Global,
+    schema: StructSchema<'_>,
+    old: &[u8],
+    new: &[u8],
+    error: Error,
+) -> Fault {
+    if error.kind == ErrorKind::OutOfMemory {
+        return get_fault(alloc, error, Blamed::Calls);
+    }
+    match find_kind(alloc, schema, old, error.kind) {
+        Ok(Some(fault)) => return fault,
+        Ok(None) => {}
+        Err(error) => return get_fault(alloc, error, Blamed::Calls),
+    }
+    match find_kind(alloc, schema, new, error.kind) {
+        Ok(Some(fault)) => blame_newer(fault),
+        Ok(None) => get_fault(alloc, error, Blamed::Calls),
+        Err(error) => get_fault(alloc, error, Blamed::Calls),
+    }
+}
+
+/// What tells that a value has no word, with its path. Refused with `OutOfMemory` alone.
+fn get_wordless_line(alloc: Global, why: NoWord, path: &[Step<'_>]) -> Result<String> {
+    let note = get_part_note(alloc, path, "")?;
+    let mut line = String::new(alloc);
+    let number = why.number();
+    let name = why.name();
+    write!(line, "refused: {number} {name}{note}\n")?;
+    Ok(line)
+}
+
+/// Why a change has no line.
+fn explain_line(alloc: Global, why: NoWord, path: &[Step<'_>]) -> NoLines {
+    match why {
+        NoWord::Refused(JsonError::Read(kind)) => {
+            NoLines::Refused(blame_newer(tell_path(alloc, path, kind)))
+        }
+        NoWord::Refused(JsonError::TooLarge) => NoLines::Refused(get_fault(
+            alloc,
+            Error::from(ErrorKind::TooLarge),
+            Blamed::Calls,
+        )),
+        NoWord::Refused(JsonError::OutOfMemory) => NoLines::Refused(get_fault(
+            alloc,
+            Error::from(ErrorKind::OutOfMemory),
+            Blamed::Calls,
+        )),
+        _ => match get_wordless_line(alloc, why, path) {
+            Ok(line) => NoLines::Told(line),
+            Err(error) => NoLines::Refused(get_fault(alloc, error, Blamed::Calls)),
+        },
+    }
+}
+
+/// The line of a change, of at most so many bytes.
+fn get_change_line<'a>(
+    alloc: Global,
+    schema: StructSchema<'a>,
+    change: &Change<'a>,
+    limit: u64,
+) -> std::result::Result<Vec<u8>, NoLines> {
+    let path = match get_change_path(alloc, schema, change) {
+        Ok(path) => path,
+        Err(error) => return Err(NoLines::Refused(get_fault(alloc, error, Blamed::Calls))),
+    };
+    match get_line(alloc, schema, &path, change.op, limit) {
+        Ok(line) => Ok(line),
+        Err(why) => Err(explain_line(alloc, why, &path)),
+    }
+}
+
+/// The lines of changes, one after another, which have no more bytes together than the limit, without their line breaks.
+/// Refused as the first of them that has none within what is left of it.
+fn get_change_lines<'a>(
+    alloc: Global,
+    schema: StructSchema<'a>,
+    changes: &[Change<'a>],
+    limit: u64,
+) -> std::result::Result<Vec<u8>, NoLines> {
+    let mut lines = Vec::new(alloc);
+    let mut left = limit;
+    for index in 0..changes.len() {
+        let line = match get_change_line(alloc, schema, &changes[index], left) {
+            Ok(line) => line,
+            Err(why) => return Err(why),
+        };
+        left -= line.len() as u64;
+        match add_line(lines, line) {
+            Ok(more) => lines = more,
+            Err(error) => return Err(NoLines::Refused(get_fault(alloc, error, Blamed::Calls))),
+        }
+    }
+    Ok(lines)
+}
+
+/// The lines of changes, or what is told where a value has no word.
+fn answer_changes<'a>(
+    alloc: Global,
+    schema: StructSchema<'a>,
+    changes: &[Change<'a>],
+    limit: u64,
+) -> Faulty<Answer> {
+    match get_change_lines(alloc, schema, changes, limit) {
+        Ok(lines) => Ok(answer_quietly(alloc, Output::Bytes(lines))),
+        Err(NoLines::Refused(fault)) => Err(fault),
+        Err(NoLines::Told(lines)) => Ok(Answer {
+            output: Output::Nothing,
+            lines,
+            refused: true,
+        }),
+    }
+}
+
+/// The lines of what makes a message into a newer one, which is not packed.
+fn diff_messages(
+    alloc: Global,
+    job: &DiffJob<'_, '_>,
+    old: &[u8],
+    new: &[u8],
+) -> Faulty<Answer> {
+    let source = blame(alloc, read_root(alloc, job.schema, old), Blamed::Input)?;
+    let target = blame(alloc, read_root(alloc, job.schema, new), Blamed::Calls)?;
+    match find_changes(alloc, source, target) {
+        Ok(changes) => answer_changes(alloc, job.schema, &changes, job.limit),
+        Err(error) => Err(explain_changes(alloc, job.schema, old, new, error)),
+    }
+}
+
+/// The calls that make a message into the newer one of a job, as lines that `patch` reads; nothing where both have equal
+/// records. A leaf is told as it is printed, which is read back as it, and a struct or a list that is put whole as its JSON.
+///
+/// Refused as either message, or as `capnp_diffs::diff::find_changes`, with the place where a part can't be read; as the first
+/// value that has no text or JSON; with `TooLarge` where the lines have more bytes than the limit; and with `OutOfMemory`.
+/// Where a value has no word (67, 68, 75) that is told with its path, and there is no line.
+pub(crate) fn answer_diff(
+    alloc: Global,
+    job: &DiffJob<'_, '_>,
+    message: &[u8],
+) -> Faulty<Answer>
+    requires { IsStruct job.now.schema }
+    ensures answer { IfOk result (IsDiffAnswer job.now message.now) }
+    ensures refused { IfErr result (λ f. f.error.kind ≢ OutOfMemory → IsNotDiffed job.now message.now f) }
+    ensures blamed { IfErr result (λ f. (f.blamed ≡ Input) ⊎ (f.blamed ≡ Calls)) }
+{
+    if !job.packed {
+        return diff_messages(alloc, job, message, job.newer);
+    }
+    let newer = blame(alloc, read_message(alloc, job.newer), Blamed::Calls)?;
+    diff_messages(alloc, job, message, &newer)
+}
