@@ -1,6 +1,6 @@
 -- What was done for a task, stage by stage. A stage stopped, or it came to something and the next one began. Of the streams
 -- `s`, `w` and `f` are the message's source, the sink of what is written and that of what is told, each before and after.
-use Rattle.std.specs.Prelude.{ℕ, ◌≡◌, ◌⊎◌, ◌++◌, List, [], Bool, true, false, Option, None, Ok, Err}
+use Rattle.std.specs.Prelude.{ℕ, ◌≡◌, ◌⊎◌, ◌++◌, List, [], Bool, true, false, Option, None, Some, Ok, Err}
 use Rattle.capnp_device.specs.Device.{HasFailed}
 use Rattle.capnp_device.specs.declared.error.ErrorKind.{ErrorKind}
 use Rattle.capnp_device.specs.declared.error.ErrorKind.TheVariants.{OutOfMemory, ReadFailed}
@@ -95,8 +95,17 @@ module _ {O A S W F : Type 0} (opens : Opens O A) (holds : A → Option (List �
       (IsFault r (λ x. (x.blamed ≡ blamed.Calls) × IsFileUnread opens fails o o' (calls_file t) x.error.kind) × IsIdle left reads written writes told tells s s' w w' f f')
       ⊎ ((mid : O) × (calls : List ℕ) × IsFileRead opens holds o mid (calls_file t) calls × IsWordsRun t calls mid o' s s' w w' f f' r)
 
-  -- The file of an older message couldn't be opened; or it was, and what is done was done from it in place of the source, which was not touched. Where none is named it was
-  -- done from the source.
+module _ {O A W F : Type 0} (opens : Opens O A) (holds : A → Option (List ℕ)) (fails : A → ℕ)
+    (written : W → Option (List ℕ)) (writes : W → ℕ) (told : F → Option (List ℕ)) (tells : F → ℕ) where
+  -- the file of an older message couldn't be opened; or it was, and what is done was done from it
+  abbrev pub IsRunOf : (path : List ℕ) → Task → (o o' : O) → (w w' : W) → (f f' : F) → Ran → Type 0
+  IsRunOf path t o o' w w' f f' r =
+      (IsFault r (λ x. (x.blamed ≡ blamed.Input) × (x.error.kind ≡ ReadFailed)) × IsNotOpened opens o o' path × (w' ≡ w) × (f' ≡ f))
+      ⊎ ((mid : O) × (source : A) × (source' : A) × opens o path (Ok source) mid × IsRun opens holds fails holds fails written writes told tells t mid o' source source' w w' f f' r)
+
+module _ {O A S W F : Type 0} (opens : Opens O A) (holds : A → Option (List ℕ)) (fails : A → ℕ)
+    (left : S → Option (List ℕ)) (reads : S → ℕ) (written : W → Option (List ℕ)) (writes : W → ℕ) (told : F → Option (List ℕ)) (tells : F → ℕ) where
+  -- from the file of an older message, where one is named, and else from the source; what is not read from is not touched
   abbrev pub IsRunFrom : (file : Option (List ℕ)) → Task → (o o' : O) → (s s' : S) → (w w' : W) → (f f' : F) → Ran → Type 0
-  IsRunFrom None t o o' s s' w w' f f' r = IsRun t o o' s s' w w' f f' r
-  IsRunFrom (Some path) t o o' s s' w w' f f' r = (s' ≡ s) × IsRunOf path t o o' w w' f f' r
+  IsRunFrom None t o o' s s' w w' f f' r = IsRun opens holds fails left reads written writes told tells t o o' s s' w w' f f' r
+  IsRunFrom (Some path) t o o' s s' w w' f f' r = (s' ≡ s) × IsRunOf opens holds fails written writes told tells path t o o' w w' f f' r
