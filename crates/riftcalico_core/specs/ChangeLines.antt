@@ -1,5 +1,5 @@
 -- The line of a change: the word of its call, as `patch` reads it.
-use Rattle.std.specs.Prelude.{ℕ, ◌≡◌, ⊤, List, [], ◌∷◌, ◌++◌, Bool, true, false, Result, Ok, Err, codes, decimal}
+use Rattle.std.specs.Prelude.{ℕ, ◌≡◌, ◌⊎◌, ⊤, List, [], ◌∷◌, ◌++◌, Bool, true, false, not, Result, Some, Ok, Err, codes, decimal}
 use Rattle.std.specs.Str.{is_utf8}
 use Rattle.capnp_call.specs.Seen.{path_seen, step_seen}
 use Rattle.capnp_call.specs.declared.calls.Op.{Op}
@@ -24,9 +24,8 @@ use Rattle.capnp_records.specs.Run.{root_type}
 use Rattle.capnp_records.specs.Text.{IsText, Out}
 use Rattle.capnp_schema.specs.Schema.{Schemas}
 use Rattle.capnp_schema.specs.Types.{SchemaType}
-use Rattle.capnp_words.specs.Calls.{CallOp, Clear, Init, Set, op_word}
+use Rattle.capnp_words.specs.Calls.{Clear, Init, Set, op_word}
 use Rattle.capnp_words.specs.Marked.{marked_value_by_word}
-use Rattle.capnp_words.specs.Paths.{words_of_path}
 use Rattle.capnp_words.specs.Reads.{Read as WordRead}
 use Rattle.riftcalico_core.specs.FieldNames.{named_path}
 use Rattle.riftcalico_core.specs.Notes.{at_note, words_behind_points}
@@ -74,9 +73,10 @@ IsUnprinted left o OutOfMemory = ⊤
 IsUnprinted left o UntypedHasNoJson = ⊥
 IsUnprinted left o TextNotUtf8 = ⊥
 
-abbrev pub IsNoUtf8 : DynamicValue → JsonError → Type 0
-IsNoUtf8 (dynamic.Text t) TextNotUtf8 = is_utf8 t.0.now ≡ false
-IsNoUtf8 v why = ⊥
+-- whether a value is a text that is not UTF-8
+abbrev pub is_no_utf8 : DynamicValue → Bool
+is_no_utf8 (dynamic.Text t) = not (is_utf8 t.0.now)
+is_no_utf8 v = false
 
 -- what is printed is read as another value, or as none
 pub record IsUnreadWord (set : Schemas) (form : Form) (t : Result SchemaType Unknown) (v : DynamicValue) : Type 0 where
@@ -86,7 +86,7 @@ pub record IsUnreadWord (set : Schemas) (form : Form) (t : Result SchemaType Unk
 
 abbrev pub IsLeafless : (left : ℕ) → Schemas → Form → Result SchemaType Unknown → DynamicValue → NoWord → Type 0
 IsLeafless left set form t v none.Unread = IsUnreadWord set form t v
-IsLeafless left set form t v (none.Refused why) = IsUnprinted left (printed_float_text form.floats false v) why ⊎ IsNoUtf8 v why
+IsLeafless left set form t v (none.Refused why) = IsUnprinted left (printed_float_text form.floats false v) why ⊎ ((why ≡ TextNotUtf8) × (is_no_utf8 v ≡ true))
 
 abbrev pub IsJsonless : (left : ℕ) → Form → DynamicValue → NoWord → Type 0
 IsJsonless left form v none.Unread = ⊥

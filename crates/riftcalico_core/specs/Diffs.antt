@@ -1,5 +1,5 @@
 -- What is answered where the calls are told that make one message into another: a line of each change, in their order; or why there are none.
-use Rattle.std.specs.Prelude.{ℕ, ◌<◌, ◌≤◌, ◌+◌, ◌-◌, ◌≡◌, ◌⊎◌, List, [], length, Bool, true, Ok, Err, string_bytes}
+use Rattle.std.specs.Prelude.{ℕ, ◌<◌, ◌≤◌, ◌+◌, ◌-◌, ◌≡◌, ◌⊎◌, List, [], length, true, Ok, Err, string_bytes}
 use Rattle.capnp_device.specs.declared.error.ErrorKind.{ErrorKind}
 use Rattle.capnp_device.specs.declared.error.ErrorKind.TheVariants as kind
 use Rattle.capnp_diffs.specs.Changes.{IsRecordTold, record_changes}
@@ -8,13 +8,12 @@ use Rattle.capnp_diffs.specs.declared.change.Change.{Change as FoundChange}
 use Rattle.capnp_call.specs.declared.calls.Op.{Op}
 use Rattle.capnp_call.specs.declared.calls.Op.TheVariants as op
 use Rattle.capnp_dynamic_readers.specs.declared.dynamic_value.Reader.{Reader as DynamicValue}
-use Rattle.capnp_json.specs.declared.error.JsonError.TheVariants.{OutOfMemory, Read, TextNotUtf8, TooLarge, UntypedHasNoJson}
+use Rattle.capnp_json.specs.declared.error.JsonError.TheVariants.{Read}
 use Rattle.capnp_queries.specs.Floats.{form_at}
 use Rattle.capnp_records.specs.Call.{PathStep}
 use Rattle.capnp_records.specs.Reading.{reads}
 use Rattle.capnp_records.specs.Record.{Record}
 use Rattle.capnp_records.specs.Run.{root_type}
-use Rattle.capnp_schema.specs.Schema.{Schemas}
 use Rattle.capnp_schema.specs.StructHandles.{number_of, set_of}
 use Rattle.capnp_schema.specs.declared.schema.structs.StructSchema.{StructSchema}
 use Rattle.capnp_wire.specs.Depth.{message_levels}
@@ -101,24 +100,27 @@ abbrev pub IsLineless : (left : ℕ) → StructSchema → FoundChange → Fault 
 IsLineless left s c f = IsUnreadLine left s c f ⊎ IsLongLine left s c f
 
 -- a line of each change is written, together within the limit but for the line breaks
-pub record AreLinesPut (j : DiffJob) (changes : List FoundChange) (a : Answer) : Type 0 where
+pub record AreLinesPut (s : StructSchema) (limit : ℕ) (changes : List FoundChange) (a : Answer) : Type 0 where
   pub lines : List ℕ
-  pub are : AreLinesOf (IsLine j.schema) changes lines
-  pub few : length lines ≤ j.limit + length changes
+  pub are : AreLinesOf (IsLine s) changes lines
+  pub few : length lines ≤ limit + length changes
   pub output : IsBytesOutput a.output lines
   pub quiet : IsQuiet a
 
 -- a change has none, which is told, and nothing is written
-pub record IsOneUntold (j : DiffJob) (changes : List FoundChange) (a : Answer) : Type 0 where
+pub record IsOneUntold (s : StructSchema) (limit : ℕ) (changes : List FoundChange) (a : Answer) : Type 0 where
   pub cause : NoWord
-  pub first : IsFirstOf (IsLine j.schema) (λ left c. IsUntoldLine left j.schema c cause (string_bytes a.lines)) j.limit changes
+  pub first : IsFirstOf (IsLine s) (λ left c. IsUntoldLine left s c cause (string_bytes a.lines)) limit changes
   pub refused : a.refused ≡ true
   pub output : a.output ≡ output.Nothing
+
+abbrev pub IsToldOrPut : StructSchema → (limit : ℕ) → List FoundChange → Answer → Type 0
+IsToldOrPut s limit changes a = AreLinesPut s limit changes a ⊎ IsOneUntold s limit changes a
 
 pub record IsDiffAnswer (j : DiffJob) (bytes : List ℕ) (a : Answer) : Type 0 where
   pub changes : List FoundChange
   pub are : AreDiffs j bytes changes
-  pub answer : AreLinesPut j changes a ⊎ IsOneUntold j changes a
+  pub answer : IsToldOrPut j.schema j.limit changes a
 
 -- ---- refusals, with the message that they blame ----
 

@@ -1,19 +1,24 @@
 //! The line of a change: the word of its call, as `patch` reads it.
-ghost use Rattle.std.specs.Prelude.{true, ◌≡◌, ◌≤◌, ◌++◌, ◌∷◌, [], IfErr, IfOk, MatchOption, codes, length, map};
-ghost use Rattle.capnp_call.specs.Seen.{path_seen, step_seen};
+ghost use Rattle.std.specs.Prelude.{false, ◌≡◌, ◌≤◌, ◌++◌, IfErr, IfOk, MatchOption, length};
+ghost use Rattle.capnp_call.specs.Seen.{path_seen};
+ghost use Rattle.capnp_call.specs.declared.calls.Op.TheVariants.{Set as SetTo};
 ghost use Rattle.capnp_device.specs.declared.error.ErrorKind.TheVariants.{OutOfMemory};
 ghost use Rattle.capnp_diffs.specs.Changes.{same_leaf};
+ghost use Rattle.capnp_diffs.specs.Steps.Leaves.{integer_seen, is_integer};
 ghost use Rattle.capnp_dynamic_readers.specs.Seen.{value_seen};
-ghost use Rattle.capnp_records.specs.Call.{PathStep};
+ghost use Rattle.capnp_json.specs.Pieces.{IsJson};
+ghost use Rattle.capnp_json.specs.Written.{written_json_as};
+ghost use Rattle.capnp_queries.specs.Floats.{form_at};
 ghost use Rattle.capnp_records.specs.Record.{Number};
 ghost use Rattle.capnp_records.specs.Run.{root_type};
 ghost use Rattle.capnp_schema.specs.Entries.{lists_seen};
 ghost use Rattle.capnp_schema.specs.StructHandles.{IsStruct, number_of, set_of};
-ghost use Rattle.capnp_words.specs.Calls.{Clear, Init, op_word};
+ghost use Rattle.capnp_words.specs.Paths.{words_of_path};
 ghost use Rattle.capnp_words.specs.Seen.{word_value_seen};
-ghost use Rattle.riftcalico_core.specs.ChangeLines.{IsLeafWord, IsLeafless, IsOpLine, IsPutWord, IsValueWord, IsWordless, cause_name, cause_number, change_path, change_steps, is_own, is_read_under, set_heading};
+ghost use Rattle.riftcalico_core.specs.ChangeLines.{IsJsonless, IsLeafWord, IsLeafless, IsOpLine, IsPutWord, IsSetLine, IsWordless, cause_name, cause_number, change_path, is_no_utf8, is_own, is_read_under};
 ghost use Rattle.riftcalico_core.specs.Replies.{types_along};
 ghost use Rattle.riftcalico_core.specs.Steps.RepliesSeen.{along_seen};
+ghost use Rattle.riftcalico_core.specs.Steps.Wordless.{HasNoLine, IsLeaf, IsLineCut, cause_of};
 
 use crate::field_names::name_path;
 use crate::get::{get_path_word, print_value, put_behind};
@@ -52,9 +57,8 @@ impl NoWord {
         match self {
             NoWord::Unread => true,
             NoWord::Refused(JsonError::UntypedHasNoJson | JsonError::TextNotUtf8) => true,
-            NoWord::Refused(
-                JsonError::Read(_) | JsonError::OutOfMemory | JsonError::TooLarge,
-            ) => false,
+            NoWord::Refused(JsonError::Read(_) | JsonError::OutOfMemory | JsonError::TooLarge) =>
+                false,
         }
     }
 
@@ -83,7 +87,9 @@ impl NoWord {
 pub(crate) type Worded = std::result::Result<Vec<u8>, NoWord>;
 
 /// The refusal of a text.
-fn find_cause(error: Error) -> NoWord {
+fn find_cause(error: Error) -> NoWord
+    ensures { result ≡ cause_of error.kind }
+{
     match error.kind {
         ErrorKind::OutOfMemory => NoWord::Refused(JsonError::OutOfMemory),
         ErrorKind::TooLarge => NoWord::Refused(JsonError::TooLarge),
@@ -92,7 +98,9 @@ fn find_cause(error: Error) -> NoWord {
 }
 
 /// An integer by its sign and its size: of one below zero, how far it is below -1.
-fn split(number: i64) -> (bool, u64) {
+fn split(number: i64) -> (bool, u64)
+    ensures { integer_seen result ≡ number }
+{
     if number < 0 {
         (true, (-(number + 1)) as u64)
     } else {
@@ -101,7 +109,10 @@ fn split(number: i64) -> (bool, u64) {
 }
 
 /// The integer of a value that is one.
-fn integer_of(value: Value<'_>) -> Option<(bool, u64)> {
+fn integer_of(value: Value<'_>) -> Option<(bool, u64)>
+    ensures { MatchOption result (is_integer value.entry ≡ false)
+        (λ p. value_seen value.entry ≡ Number (integer_seen p)) }
+{
     match value {
         Value::Int8(x) => Some(split(x as i64)),
         Value::Int16(x) => Some(split(x as i64)),
@@ -116,7 +127,12 @@ fn integer_of(value: Value<'_>) -> Option<(bool, u64)> {
 }
 
 /// Whether two values that are no integers are the same, of those that have no parts.
-fn is_same_other(one: Value<'_>, another: Value<'_>) -> bool {
+fn is_same_other(one: Value<'_>, another: Value<'_>) -> bool
+    requires leaf { IsLeaf one }
+    requires leaves { IsLeaf another }
+    requires other { is_integer one ≡ false }
+    ensures { result ≡ same_leaf (value_seen one.entry) (value_seen another.entry) }
+{
     match one {
         Value::Void => matches!(another, Value::Void),
         Value::Bool(x) => match another {
@@ -141,6 +157,7 @@ fn is_same_other(one: Value<'_>, another: Value<'_>) -> bool {
 
 /// Whether a word's value is a value.
 fn is_same(value: Value<'_>, read: &PlainValue<'_>) -> bool
+    requires { IsLeaf value }
     ensures { result ≡ same_leaf (value_seen value.entry) (word_value_seen read.now) }
 {
     let other = read.as_reader();
@@ -162,6 +179,7 @@ fn is_read_back(
     value: Value<'_>,
     word: &[u8],
 ) -> Result<bool>
+    requires { IsLeaf value }
     ensures read { IfOk result (λ read. read ≡ is_read_under (lists_seen schemas.now) floats (along_seen target.entry)
         (value_seen value.entry) word.now) }
     ensures memory { IfErr result (λ e. e.kind ≡ OutOfMemory) }
@@ -176,7 +194,9 @@ fn is_read_back(
 }
 
 /// Whether a value is a text that is not UTF-8.
-fn is_no_utf8(value: Value<'_>) -> bool {
+fn is_no_utf8(value: Value<'_>) -> bool
+    ensures { result ≡ is_no_utf8 value.entry }
+{
     match value {
         Value::Text(text) => str::from_utf8(text.0).is_err(),
         _ => false,
@@ -188,18 +208,23 @@ fn get_leaf_word(
     alloc: Global,
     schemas: &SchemaSet,
     target: std::result::Result<Type, Unknown<'_>>,
-    floats: bool,
+    form: Form,
     value: Value<'_>,
     limit: u64,
-) -> Worded {
+) -> Worded
+    requires { IsLeaf value }
+    ensures word { IfOk result (λ word. IsLeafWord (lists_seen schemas.now) form (along_seen target.entry) value.entry word.items) }
+    ensures within { IfOk result (λ word. length word.items ≤ limit) }
+    ensures refused { IfErr result (IsLeafless limit (lists_seen schemas.now) form (along_seen target.entry) value.entry) }
+{
     if is_no_utf8(value) {
         return Err(NoWord::Refused(JsonError::TextNotUtf8));
     }
-    let word = match print_value(alloc, value, floats, false, limit) {
+    let word = match print_value(alloc, value, form.floats, false, limit) {
         Ok(word) => word,
         Err(error) => return Err(find_cause(error)),
     };
-    match is_read_back(alloc, schemas, target, floats, value, &word) {
+    match is_read_back(alloc, schemas, target, form.floats, value, &word) {
         Ok(true) => Ok(word),
         Ok(false) => Err(NoWord::Unread),
         Err(error) => Err(find_cause(error)),
@@ -207,7 +232,11 @@ fn get_leaf_word(
 }
 
 /// The JSON of a struct or a list on one line, of at most so many bytes.
-fn get_whole_word(alloc: Global, value: Value<'_>, form: Form, limit: u64) -> Worded {
+fn get_whole_word(alloc: Global, value: Value<'_>, form: Form, limit: u64) -> Worded
+    ensures json { IfOk result (λ json. IsJson (written_json_as form false value.entry) json.items) }
+    ensures within { IfOk result (λ json. length json.items ≤ limit) }
+    ensures refused { IfErr result (IsJsonless limit form value.entry) }
+{
     match to_json_as(alloc, value, form, false, limit as usize) {
         Ok(json) => Ok(json),
         Err(why) => Err(NoWord::Refused(why)),
@@ -226,6 +255,10 @@ fn get_value_word(
     ensures word { IfOk result (λ word. IsPutWord (set_of schema.entry) (number_of schema.entry) (path_seen path.now)
         value.entry word.items) }
     ensures within { IfOk result (λ word. length word.items ≤ limit) }
+    ensures refused { IfErr result (IsWordless limit (set_of schema.entry)
+        (form_at (set_of schema.entry) (number_of schema.entry) (path_seen path.now))
+        (types_along (set_of schema.entry) (root_type (set_of schema.entry) (number_of schema.entry)) (path_seen path.now))
+        value.entry) }
 {
     let form = get_form_at(schema, path);
     match value {
@@ -235,7 +268,7 @@ fn get_value_word(
             let root = Type::from(TypeVariant::Struct(schema.into()));
             let schemas = schema.get_set();
             let target = walk_types(schemas, root, path);
-            get_leaf_word(alloc, schemas, target, form.floats, value, limit)
+            get_leaf_word(alloc, schemas, target, form, value, limit)
         }
     }
 }
@@ -258,7 +291,10 @@ pub(crate) fn get_change_path<'a>(
 }
 
 /// What a call is called, and its path. Refused with `OutOfMemory` alone.
-fn get_start(alloc: Global, verb: &str, path: &[Step<'_>], end: &str) -> Result<Vec<u8>> {
+fn get_start(alloc: Global, verb: &str, path: &[Step<'_>], end: &str) -> Result<Vec<u8>>
+    ensures start { IfOk result (λ start. start.items ≡ verb.now ++ (words_of_path (path_seen path.now) ++ end.now)) }
+    ensures memory { IfErr result (λ e. e.kind ≡ OutOfMemory) }
+{
     let words = get_words(alloc, path)?;
     let path = get_path_word(words.as_str());
     let start = format!(in alloc; "{verb}{path}{end}")?;
@@ -266,7 +302,11 @@ fn get_start(alloc: Global, verb: &str, path: &[Step<'_>], end: &str) -> Result<
 }
 
 /// The line of a call that is given nothing, of at most so many bytes.
-fn get_short_line(alloc: Global, verb: &str, path: &[Step<'_>], limit: u64) -> Worded {
+fn get_short_line(alloc: Global, verb: &str, path: &[Step<'_>], limit: u64) -> Worded
+    ensures line { IfOk result (λ line. line.items ≡ verb.now ++ words_of_path (path_seen path.now)) }
+    ensures within { IfOk result (λ line. length line.items ≤ limit) }
+    ensures refused { IfErr result (IsLineCut limit (verb.now ++ words_of_path (path_seen path.now))) }
+{
     let line = match get_start(alloc, verb, path, "") {
         Ok(line) => line,
         Err(error) => return Err(find_cause(error)),
@@ -284,7 +324,13 @@ fn get_set_line(
     path: &[Step<'_>],
     value: Value<'_>,
     limit: u64,
-) -> Worded {
+) -> Worded
+    requires { IsStruct schema }
+    ensures line { IfOk result (λ line. IsSetLine (set_of schema.entry) (number_of schema.entry) (path_seen path.now)
+        value.entry line.items) }
+    ensures within { IfOk result (λ line. length line.items ≤ limit) }
+    ensures refused { IfErr result (HasNoLine limit schema.entry (path_seen path.now) (SetTo value.entry)) }
+{
     let start = match get_start(alloc, "set ", path, " ") {
         Ok(start) => start,
         Err(error) => return Err(find_cause(error)),
@@ -315,6 +361,7 @@ pub(crate) fn get_line(
     ensures line { IfOk result (λ line. IsOpLine (set_of schema.entry) (number_of schema.entry) (path_seen path.now)
         op.entry line.items) }
     ensures within { IfOk result (λ line. length line.items ≤ limit) }
+    ensures refused { IfErr result (HasNoLine limit schema.entry (path_seen path.now) op.entry) }
 {
     match op {
         Op::Set(value) => get_set_line(alloc, schema, path, value, limit),

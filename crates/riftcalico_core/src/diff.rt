@@ -1,8 +1,19 @@
 //! The calls that make one message into another, as lines that `patch` reads.
-ghost use Rattle.std.specs.Prelude.{◌≡◌, ◌≢◌, ◌⊎◌, IfErr, IfOk};
+ghost use Rattle.std.specs.Prelude.{ℕ, [], ◌+◌, ◌≡◌, ◌≢◌, ◌≤◌, ◌⊎◌, IfErr, IfOk, IfSome, Ok, length, string_bytes};
+ghost use Rattle.capnp_call.specs.Seen.{path_seen};
 ghost use Rattle.capnp_device.specs.declared.error.ErrorKind.TheVariants.{OutOfMemory};
-ghost use Rattle.capnp_schema.specs.StructHandles.{IsStruct};
-ghost use Rattle.riftcalico_core.specs.Diffs.{IsDiffAnswer, IsNotDiffed};
+ghost use Rattle.capnp_diffs.specs.declared.change.Change.{Change as FoundChange};
+ghost use Rattle.capnp_dynamic_readers.specs.Handles.{reader_of, schema_of};
+ghost use Rattle.capnp_records.specs.Reading.{reads};
+ghost use Rattle.capnp_schema.specs.StructHandles.{IsStruct, number_of, set_of};
+ghost use Rattle.capnp_schema.specs.declared.schema.structs.StructSchema.{StructSchema as StructHandle};
+ghost use Rattle.capnp_wire.specs.Standing.{struct_of};
+ghost use Rattle.riftcalico_core.specs.ChangeLines.{wordless_line};
+ghost use Rattle.riftcalico_core.specs.Diffs.{HasRootRecord, IsDiffAnswer, IsLine, IsLineless, IsNotDiffed, IsNotFound, IsRootless, IsToldOrPut, path_of};
+ghost use Rattle.riftcalico_core.specs.Inputs.{message_in};
+ghost use Rattle.riftcalico_core.specs.Lines.{AreLinesOf, IsFirstOf};
+ghost use Rattle.riftcalico_core.specs.Shown.{IsNotShown};
+ghost use Rattle.riftcalico_core.specs.Steps.Wordless.{AreWithoutLines, HasNoLine, IsWithoutLine};
 ghost use Rattle.riftcalico_core.specs.declared.fault.Blamed.TheVariants.{Calls, Input};
 
 use crate::answer::{Answer, Output, answer_quietly};
@@ -37,14 +48,23 @@ fn read_root<'a>(
     alloc: Global,
     schema: StructSchema<'a>,
     bytes: &'a [u8],
-) -> Result<dynamic_struct::Reader<'a>> {
+) -> Result<dynamic_struct::Reader<'a>>
+    ensures schema { IfOk result (λ r. schema_of r ≡ schema.entry) }
+    ensures record { IfOk result (λ r. HasRootRecord schema.entry bytes.now
+        (reads (set_of schema.entry) (struct_of (reader_of r)) (number_of schema.entry))) }
+    ensures refused { IfErr result (λ e. IsRootless bytes.now e.kind) }
+{
     let message = Reader::new(alloc, bytes)?;
     let root = message.get_root().get_struct()?;
     Ok(dynamic_struct::Reader::new(root, schema))
 }
 
 /// A refusal that blames the newer message in place of the older one.
-fn blame_newer(fault: Fault) -> Fault {
+fn blame_newer(fault: Fault) -> Fault
+    ensures error { result.error ≡ fault.error }
+    ensures blamed { result.blamed ≡ Calls }
+    ensures note { result.note ≡ fault.note }
+{
     Fault {
         error: fault.error,
         blamed: Blamed::Calls,
@@ -58,7 +78,13 @@ fn find_kind(
     schema: StructSchema<'_>,
     message: &[u8],
     kind: ErrorKind,
-) -> Result<Option<Fault>> {
+) -> Result<Option<Fault>>
+    requires { IsStruct schema }
+    ensures found { IfOk result (λ found. IfSome found (IsNotShown schema.entry [] message.now)) }
+    ensures kind { IfOk result (λ found. IfSome found (λ f. f.error.kind ≡ kind)) }
+    ensures blamed { IfOk result (λ found. IfSome found (λ f. f.blamed ≡ Input)) }
+    ensures memory { IfErr result (λ e. e.kind ≡ OutOfMemory) }
+{
     match find_fault(alloc, schema, &[], message)? {
         Some(fault) => {
             if fault.error.kind == kind {
@@ -79,7 +105,12 @@ fn explain_changes(
     old: &[u8],
     new: &[u8],
     error: Error,
-) -> Fault {
+) -> Fault
+    requires { IsStruct schema }
+    ensures found { result.error.kind ≢ OutOfMemory → IsNotFound schema.entry old.now new.now result }
+    ensures kind { result.error.kind ≢ OutOfMemory → result.error.kind ≡ error.kind }
+    ensures blamed { (result.blamed ≡ Input) ⊎ (result.blamed ≡ Calls) }
+{
     if error.kind == ErrorKind::OutOfMemory {
         return get_fault(alloc, error, Blamed::Calls);
     }
@@ -96,7 +127,10 @@ fn explain_changes(
 }
 
 /// What tells that a value has no word, with its path. Refused with `OutOfMemory` alone.
-fn get_wordless_line(alloc: Global, why: NoWord, path: &[Step<'_>]) -> Result<String> {
+fn get_wordless_line(alloc: Global, why: NoWord, path: &[Step<'_>]) -> Result<String>
+    ensures line { IfOk result (λ line. string_bytes line ≡ wordless_line why (path_seen path.now)) }
+    ensures memory { IfErr result (λ e. e.kind ≡ OutOfMemory) }
+{
     let note = get_part_note(alloc, path, "")?;
     let mut line = String::new(alloc);
     let number = why.number();
@@ -106,7 +140,10 @@ fn get_wordless_line(alloc: Global, why: NoWord, path: &[Step<'_>]) -> Result<St
 }
 
 /// Why a change has no line.
-fn explain_line(alloc: Global, why: NoWord, path: &[Step<'_>]) -> NoLines {
+fn explain_line(alloc: Global, why: NoWord, path: &[Step<'_>]) -> NoLines
+    ensures { (left : ℕ) (s : StructHandle) (c : FoundChange) → path_of s c ≡ path_seen path.now
+        → HasNoLine left s (path_of s c) c.op why → IsWithoutLine left s c result }
+{
     match why {
         NoWord::Refused(JsonError::Read(kind)) => {
             NoLines::Refused(blame_newer(tell_path(alloc, path, kind)))
@@ -134,7 +171,12 @@ fn get_change_line<'a>(
     schema: StructSchema<'a>,
     change: &Change<'a>,
     limit: u64,
-) -> std::result::Result<Vec<u8>, NoLines> {
+) -> std::result::Result<Vec<u8>, NoLines>
+    requires { IsStruct schema }
+    ensures line { IfOk result (λ line. IsLine schema.entry change.now line.items) }
+    ensures within { IfOk result (λ line. length line.items ≤ limit) }
+    ensures refused { IfErr result (IsWithoutLine limit schema.entry change.now) }
+{
     let path = match get_change_path(alloc, schema, change) {
         Ok(path) => path,
         Err(error) => return Err(NoLines::Refused(get_fault(alloc, error, Blamed::Calls))),
@@ -152,7 +194,12 @@ fn get_change_lines<'a>(
     schema: StructSchema<'a>,
     changes: &[Change<'a>],
     limit: u64,
-) -> std::result::Result<Vec<u8>, NoLines> {
+) -> std::result::Result<Vec<u8>, NoLines>
+    requires { IsStruct schema }
+    ensures lines { IfOk result (λ lines. AreLinesOf (IsLine schema.entry) changes.now lines.items) }
+    ensures few { IfOk result (λ lines. length lines.items ≤ limit + length changes.now) }
+    ensures refused { IfErr result (AreWithoutLines limit schema.entry changes.now) }
+{
     let mut lines = Vec::new(alloc);
     let mut left = limit;
     for index in 0..changes.len() {
@@ -175,7 +222,13 @@ fn answer_changes<'a>(
     schema: StructSchema<'a>,
     changes: &[Change<'a>],
     limit: u64,
-) -> Faulty<Answer> {
+) -> Faulty<Answer>
+    requires { IsStruct schema }
+    ensures answer { IfOk result (IsToldOrPut schema.entry limit changes.now) }
+    ensures refused { IfErr result (λ f. f.error.kind ≢ OutOfMemory
+        → IsFirstOf (IsLine schema.entry) (λ left c. IsLineless left schema.entry c f) limit changes.now) }
+    ensures blamed { IfErr result (λ f. f.blamed ≡ Calls) }
+{
     match get_change_lines(alloc, schema, changes, limit) {
         Ok(lines) => Ok(answer_quietly(alloc, Output::Bytes(lines))),
         Err(NoLines::Refused(fault)) => Err(fault),
@@ -188,12 +241,13 @@ fn answer_changes<'a>(
 }
 
 /// The lines of what makes a message into a newer one, which is not packed.
-fn diff_messages(
-    alloc: Global,
-    job: &DiffJob<'_, '_>,
-    old: &[u8],
-    new: &[u8],
-) -> Faulty<Answer> {
+fn diff_messages(alloc: Global, job: &DiffJob<'_, '_>, old: &[u8], new: &[u8]) -> Faulty<Answer>
+    requires stands { IsStruct job.now.schema }
+    requires newer { message_in job.now.packed job.now.newer.now ≡ Ok new.now }
+    ensures answer { IfOk result (IsDiffAnswer job.now old.now) }
+    ensures refused { IfErr result (λ f. f.error.kind ≢ OutOfMemory → IsNotDiffed job.now old.now f) }
+    ensures blamed { IfErr result (λ f. (f.blamed ≡ Input) ⊎ (f.blamed ≡ Calls)) }
+{
     let source = blame(alloc, read_root(alloc, job.schema, old), Blamed::Input)?;
     let target = blame(alloc, read_root(alloc, job.schema, new), Blamed::Calls)?;
     match find_changes(alloc, source, target) {
@@ -208,11 +262,7 @@ fn diff_messages(
 /// Refused as either message, or as `capnp_diffs::diff::find_changes`, with the place where a part can't be read; as the first
 /// value that has no text or JSON; with `TooLarge` where the lines have more bytes than the limit; and with `OutOfMemory`.
 /// Where a value has no word (67, 68, 75) that is told with its path, and there is no line.
-pub(crate) fn answer_diff(
-    alloc: Global,
-    job: &DiffJob<'_, '_>,
-    message: &[u8],
-) -> Faulty<Answer>
+pub(crate) fn answer_diff(alloc: Global, job: &DiffJob<'_, '_>, message: &[u8]) -> Faulty<Answer>
     requires { IsStruct job.now.schema }
     ensures answer { IfOk result (IsDiffAnswer job.now message.now) }
     ensures refused { IfErr result (λ f. f.error.kind ≢ OutOfMemory → IsNotDiffed job.now message.now f) }

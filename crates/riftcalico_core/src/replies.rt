@@ -34,7 +34,11 @@ use std::alloc::Global;
 pub(crate) type Unknown<'c> = (Type, Step<'c>);
 
 /// The type of what a step names at a type of the set. None where it fits nothing there.
-pub(crate) fn find_type_behind(schemas: &SchemaSet, kind: TypeVariant, step: Step<'_>) -> Option<Type>
+pub(crate) fn find_type_behind(
+    schemas: &SchemaSet,
+    kind: TypeVariant,
+    step: Step<'_>,
+) -> Option<Type>
     ensures { option_map seen_type result
         ≡ type_behind (lists_seen schemas.now) (seen_variant kind) (step_seen step.entry) }
 {
