@@ -1,5 +1,7 @@
 pub mod Blamed
 pub mod CallsGiven
+pub mod ChangesLined
+pub mod ChangesTold
 pub mod Counted
 pub mod Each
 pub mod FirstOf
