@@ -8,6 +8,7 @@ pub mod FirstOf
 pub mod HeadedLines
 pub mod JsonTold
 pub mod LinesGot
+pub mod LinesRead
 pub mod ListingsAsked
 pub mod NearNames
 pub mod NotShown

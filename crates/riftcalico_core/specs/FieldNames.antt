@@ -1,9 +1,10 @@
 -- Paths with fields by their names, where these are plain.
 use Rattle.std.specs.Prelude.{ℕ, List, [], ◌∷◌, Bool, true, false, not, ◌&&◌, ◌||◌, ◌==◌, Option, Some, None, slice_get}
 use Rattle.std.specs.Char.{is_ascii_alphanumeric, is_ascii_digit}
+use Rattle.std.specs.Option.{option_map}
 use Rattle.capnp_records.specs.Call.{ElementAt, FieldNamed, FieldNumber, PathStep}
 use Rattle.capnp_schema.specs.Query.{field_named, records_of}
-use Rattle.capnp_schema.specs.Schema.{Field, Schemas}
+use Rattle.capnp_schema.specs.Schema.{Field, Schemas, TypedField, fields_of}
 use Rattle.capnp_schema.specs.Types.{SchemaType, StructType}
 use Rattle.capnp_words.specs.Targets.{type_behind}
 
@@ -29,12 +30,16 @@ by_name true i name = FieldNamed name
 by_name false i name = FieldNumber i
 
 -- a field by its name, where that is plain and is found again, and else by its number
-abbrev pub named_field : List Field → ℕ → Option Field → PathStep
+abbrev pub named_field : List Field → ℕ → (name : Option (List ℕ)) → PathStep
 named_field fields i None = FieldNumber i
-named_field fields i (Some f) = by_name (is_plain_name f.name && is_index i (field_named fields f.name)) i f.name
+named_field fields i (Some name) = by_name (is_plain_name name && is_index i (field_named fields name)) i name
+
+-- the name of a brand's field
+abbrev pub name_at : Schemas → ℕ → ℕ → Option (List ℕ)
+name_at set b i = option_map (λ (f : TypedField). f.field.name) (slice_get (fields_of set b) i)
 
 abbrev pub named_step : Schemas → SchemaType → PathStep → PathStep
-named_step set (StructType b g) (FieldNumber i) = named_field (records_of set b) i (slice_get (records_of set b) i)
+named_step set (StructType b g) (FieldNumber i) = named_field (records_of set b) i (name_at set b i)
 named_step set t s = s
 
 -- the same of each step of a path from a type on; what fits nothing stays as it is

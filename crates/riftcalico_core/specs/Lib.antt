@@ -5,6 +5,7 @@ pub mod CallsSeen
 pub mod ChangeLines
 pub mod Comparisons
 pub mod Depths
+pub mod DiffLaws
 pub mod Diffs
 pub mod Expanded
 pub mod Faults

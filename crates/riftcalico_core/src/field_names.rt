@@ -1,14 +1,14 @@
 //! Paths with fields by their names, where these are plain and name the same fields.
-ghost use Rattle.std.specs.Prelude.{Some, ◌≡◌, IfErr, IfOk};
+ghost use Rattle.std.specs.Prelude.{Some, ◌≡◌, ◌&&◌, IfErr, IfOk};
+ghost use Rattle.std.specs.Option.{option_map};
 ghost use Rattle.capnp_call.specs.Seen.{path_seen, step_seen};
 ghost use Rattle.capnp_device.specs.declared.error.ErrorKind.TheVariants.{OutOfMemory};
 ghost use Rattle.capnp_records.specs.Run.{root_type};
 ghost use Rattle.capnp_schema.specs.Entries.{lists_seen};
-ghost use Rattle.capnp_schema.specs.Query.{records_of};
+ghost use Rattle.capnp_schema.specs.Query.{field_named, records_of};
 ghost use Rattle.capnp_schema.specs.StructHandles.{IsStruct, number_of, set_of};
 ghost use Rattle.capnp_schema.specs.Types.{seen_type, seen_variant};
-ghost use Rattle.std.specs.Prelude.{slice_get};
-ghost use Rattle.riftcalico_core.specs.FieldNames.{are_name_bytes, is_name_byte, is_plain_name, named_field, named_path, named_step};
+ghost use Rattle.riftcalico_core.specs.FieldNames.{are_name_bytes, is_index, is_name_byte, is_plain_name, name_at, named_field, named_path, named_step};
 
 use crate::replies::find_type_behind;
 use capnp_base::introspect::{Type, TypeVariant};
@@ -48,30 +48,50 @@ fn is_plain_name(name: &str) -> bool
     }
 }
 
+/// The name of the field of an index, where there is one.
+fn find_name<'s>(schema: StructSchema<'s>, index: u16) -> Option<&'s str>
+    ensures { option_map (λ n. n.now) result ≡ name_at (set_of schema.entry) (number_of schema.entry) index }
+{
+    let fields = schema.get_fields().ok()?;
+    if index < fields.len() {
+        return Some(fields.get(index).get_proto().name.as_str());
+    }
+    None
+}
+
 /// Whether a name names the field of an index.
-fn names_field(schema: StructSchema<'_>, name: &str, index: u16) -> bool {
+fn names_field(schema: StructSchema<'_>, name: &str, index: u16) -> bool
+    ensures { result ≡ is_index index
+        (field_named (records_of (set_of schema.entry) (number_of schema.entry)) name.now) }
+{
     match schema.find_field_by_name(name) {
         Ok(Some(field)) => field.get_index() == index,
         _ => false,
     }
 }
 
+/// Whether the field of an index is told by this name: it stands in a path as it is, and names that field.
+fn is_told_by(schema: StructSchema<'_>, name: &str, index: u16) -> bool
+    ensures { result ≡ is_plain_name name.now && is_index index
+        (field_named (records_of (set_of schema.entry) (number_of schema.entry)) name.now) }
+{
+    is_plain_name(name) && names_field(schema, name, index)
+}
+
 /// The step to the field of an index: by its name, where that is plain and names it.
 fn name_field<'s>(schema: StructSchema<'s>, index: u16) -> Step<'s>
     ensures { step_seen result ≡ named_field (records_of (set_of schema.entry) (number_of schema.entry)) index
-        (slice_get (records_of (set_of schema.entry) (number_of schema.entry)) index) }
+        (name_at (set_of schema.entry) (number_of schema.entry) index) }
 {
-    let Ok(fields) = schema.get_fields() else {
-        return Step::Field(index);
-    };
-    if index >= fields.len() {
-        return Step::Field(index);
-    }
-    let name = fields.get(index).get_proto().name.as_str();
-    if is_plain_name(name) && names_field(schema, name, index) {
-        Step::Named(name)
-    } else {
-        Step::Field(index)
+    match find_name(schema, index) {
+        Some(name) => {
+            if is_told_by(schema, name, index) {
+                Step::Named(name)
+            } else {
+                Step::Field(index)
+            }
+        }
+        None => Step::Field(index),
     }
 }
 

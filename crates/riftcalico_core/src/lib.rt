@@ -16,6 +16,7 @@ mod from_json;
 mod get;
 pub mod job;
 mod json;
+pub mod laws;
 pub mod names;
 mod near;
 mod note;

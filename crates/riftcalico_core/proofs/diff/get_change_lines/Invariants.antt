@@ -7,9 +7,9 @@ use Rattle.riftcalico_core.proofs.diff.get_change_lines.Given as goal
 
 abbrev pub invariant-loop-index : goal.invariant-loop-index
 invariant-loop-index l = record {
-  begins : Begins (IsLine l.schema) l.changes (drop l.index l.changes) l.lines.items;
-  refuses : Refuses (IsLine l.schema) l.changes (lineless l.schema) l.limit l.left (drop l.index l.changes);
-  untold : Refuses (IsLine l.schema) l.changes (untold l.schema) l.limit l.left (drop l.index l.changes);
-  few : length l.lines.items + l.left ≡ l.limit + l.index;
+  begins : Begins (IsLine l.fn.schema) l.changes (drop l.index l.changes) l.lines.items;
+  refuses : Refuses (IsLine l.fn.schema) l.changes (lineless l.fn.schema) l.fn.limit l.left (drop l.index l.changes);
+  untold : Refuses (IsLine l.fn.schema) l.changes (untold l.fn.schema) l.fn.limit l.left (drop l.index l.changes);
+  few : length l.lines.items + l.left ≡ l.fn.limit + l.index;
   inside : l.index ≤ length l.changes;
 }
