@@ -10,6 +10,7 @@ pub mod JsonTold
 pub mod LinesGot
 pub mod LinesRead
 pub mod ListingsAsked
+pub mod NamedPaths
 pub mod NearNames
 pub mod NotShown
 pub mod Noted

@@ -27,8 +27,8 @@ use Rattle.capnp_words.specs.Paths.{is_dot, is_space, words_of_path}
 use Rattle.capnp_words.specs.Reads.{Read}
 use Rattle.capnp_words.specs.Targets.{field_type, type_behind}
 use Rattle.riftcalico_core.specs.ChangeLines.{IsOpLine, change_path, change_steps, is_read, is_read_under}
-use Rattle.riftcalico_core.specs.DiffLaws.{ChangeLinesAreRead, IsReadAs, LeavesAreReadBack, NamesLeadAlike}
-use Rattle.riftcalico_core.specs.FieldNames.{are_name_bytes, by_name, is_index, is_name_byte, is_plain_name, name_at, named_field, named_path, named_step}
+use Rattle.riftcalico_core.specs.DiffLaws.{ChangeLinesAreRead, IsReadAs, LeavesAreReadBack, NamesHaveTargets, NamesHaveTypes}
+use Rattle.riftcalico_core.specs.FieldNames.{are_name_bytes, by_name, is_index, is_name_byte, is_plain_name, name_at, named_field, named_first, named_path, named_step, type_next}
 
 and_both : (a b : Bool) → (a && b) ≡ true → (a ≡ true) × (b ≡ true)
 and_both true b e = (refl, e)
@@ -50,7 +50,7 @@ index_is i None e = absurd (true≢false (sym e))
 index_is i (Some j) e = ap Some (sym (eqb-true i j e))
 
 -- what a step to a field is by its number, of all by which it may be named
-by_number : {A : Type 0} → List Field → (Option ℕ → A) → (other : A) → PathStep → A
+abbrev by_number : {A : Type 0} → List Field → (Option ℕ → A) → (other : A) → PathStep → A
 by_number fields f other (FieldNumber j) = f (Some j)
 by_number fields f other (FieldNamed name) = f (field_named fields name)
 by_number fields f other (ElementAt j) = other
@@ -81,27 +81,29 @@ targets_alike set b g i (value.Group r) =
     target_by set value.Group r b (named_field (records_of set b) i (name_at set b i)) ∙ named_alike (records_of set b) (field_found set value.Group r b) (Err NotAContainer) i (name_at set b i)
 targets_alike set b g i v = refl
 
-pub names_lead_alike : NamesLeadAlike
-names_lead_alike set (StructType b g) (FieldNumber i) = (
-  type_by set b g (named_field (records_of set b) i (name_at set b i)) ∙ named_alike (records_of set b) (option_and_then (field_type set b)) None i (name_at set b i),
-  targets_alike set b g i,
-)
-names_lead_alike set t s = (refl, λ v. refl)
+pub names_have_types : NamesHaveTypes
+names_have_types set (StructType b g) (FieldNumber i) =
+    type_by set b g (named_field (records_of set b) i (name_at set b i)) ∙ named_alike (records_of set b) (option_and_then (field_type set b)) None i (name_at set b i)
+names_have_types set t s = refl
+
+pub names_have_targets : NamesHaveTargets
+names_have_targets set (StructType b g) v (FieldNumber i) = targets_alike set b g i v
+names_have_targets set t v s = refl
 
 -- ---- names in paths ----
 
 byte_not : (k b : ℕ) → is_name_byte k ≡ false → is_name_byte b ≡ true → (b == k) ≡ false
-byte_not k b no yes = go (b == k) refl
+byte_not k b lacks has = go (b == k) refl
   where
     go : (q : Bool) → (b == k) ≡ q → (b == k) ≡ false
-    go true e = absurd (true≢false (sym yes ∙ (ap is_name_byte (eqb-true b k e) ∙ no)))
+    go true e = absurd (true≢false (sym has ∙ (ap is_name_byte (eqb-true b k e) ∙ lacks)))
     go false e = e
 
 all_not : (k : ℕ) (bs : List ℕ) → is_name_byte k ≡ false → are_name_bytes bs ≡ true → All (λ b. (b == k) ≡ false) bs
-all_not k [] no e = All-nil (λ b. (b == k) ≡ false)
-all_not k (b ∷ bs) no e =
+all_not k [] lacks e = All-nil (λ b. (b == k) ≡ false)
+all_not k (b ∷ bs) lacks e =
     let (head, tail) = and_both (is_name_byte b) (are_name_bytes bs) e in
-    All-cons (λ b. (b == k) ≡ false) b bs (byte_not k b no head) (all_not k bs no tail)
+    All-cons (λ b. (b == k) ≡ false) b bs (byte_not k b lacks head) (all_not k bs lacks tail)
 
 not_digit : (d : Bool) → not d ≡ true → d ≡ false
 not_digit false e = refl
@@ -133,15 +135,17 @@ step_fine : (set : Schemas) (t : SchemaType) (s : PathStep) → IsPathStep s →
 step_fine set (StructType b g) (FieldNumber i) h = field_fine (records_of set b) i (name_at set b i) h
 step_fine set t s h = h
 
+first_fine : (set : Schemas) (o : Option SchemaType) (s : PathStep) → IsPathStep s → IsPathStep (named_first set o s)
+first_fine set None s h = h
+first_fine set (Some t) s h = step_fine set t s h
+
 path_fine : (set : Schemas) (o : Option SchemaType) (steps : List PathStep) → AllByRecursion IsPathStep steps → AllByRecursion IsPathStep (named_path set o steps)
-path_fine set None steps h = h
-path_fine set (Some t) [] h = h
-path_fine set (Some t) (s ∷ steps) h = (step_fine set t s h.0, path_fine set (type_behind set t s) steps h.1)
+path_fine set o [] h = h
+path_fine set o (s ∷ steps) h = (first_fine set o s h.0, path_fine set (type_next set o s) steps h.1)
 
 path_long : (set : Schemas) (o : Option SchemaType) (steps : List PathStep) → length (named_path set o steps) ≡ length steps
-path_long set None steps = refl
-path_long set (Some t) [] = refl
-path_long set (Some t) (s ∷ steps) = ap suc (path_long set (type_behind set t s) steps)
+path_long set o [] = refl
+path_long set o (s ∷ steps) = ap suc (path_long set (type_next set o s) steps)
 
 some_step : (steps : List PathStep) (s : PathStep) → 0 < length (steps ++ s ∷ [])
 some_step [] s = omega arith

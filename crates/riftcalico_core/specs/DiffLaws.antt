@@ -37,6 +37,10 @@ ChangeLinesAreRead = (set : Schemas) (b : ℕ) (c : FoundChange) (line : List �
 abbrev pub LeavesAreReadBack : Type 0
 LeavesAreReadBack = (set : Schemas) (floats : Bool) (t : SchemaType) (v : Value) (word : List ℕ) → is_read_under set floats (Ok t) v word ≡ true → marked_value_by_word set floats t word ≡ Ok v
 
--- a step to a field by its name leads where its number leads, in schemas and in the machine of records
-abbrev pub NamesLeadAlike : Type 0
-NamesLeadAlike = (set : Schemas) (t : SchemaType) (s : PathStep) → (type_behind set t (named_step set t s) ≡ type_behind set t s) × ((v : Value) → step_target set t v (named_step set t s) ≡ step_target set t v s)
+-- a step to a field by its name leads where its number leads, in schemas
+abbrev pub NamesHaveTypes : Type 0
+NamesHaveTypes = (set : Schemas) (t : SchemaType) (s : PathStep) → type_behind set t (named_step set t s) ≡ type_behind set t s
+
+-- and in the machine of records
+abbrev pub NamesHaveTargets : Type 0
+NamesHaveTargets = (set : Schemas) (t : SchemaType) (v : Value) (s : PathStep) → step_target set t v (named_step set t s) ≡ step_target set t v s

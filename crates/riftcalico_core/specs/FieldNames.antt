@@ -42,8 +42,16 @@ abbrev pub named_step : Schemas → SchemaType → PathStep → PathStep
 named_step set (StructType b g) (FieldNumber i) = named_field (records_of set b) i (name_at set b i)
 named_step set t s = s
 
--- the same of each step of a path from a type on; what fits nothing stays as it is
+-- what stands behind what fits nothing stays as it is
+abbrev pub named_first : Schemas → Option SchemaType → PathStep → PathStep
+named_first set None s = s
+named_first set (Some t) s = named_step set t s
+
+abbrev pub type_next : Schemas → Option SchemaType → PathStep → Option SchemaType
+type_next set None s = None
+type_next set (Some t) s = type_behind set t s
+
+-- the same of each step of a path from a type on
 abbrev pub named_path : Schemas → Option SchemaType → List PathStep → List PathStep
-named_path set None steps = steps
-named_path set (Some t) [] = []
-named_path set (Some t) (s ∷ steps) = named_step set t s ∷ named_path set (type_behind set t s) steps
+named_path set o [] = []
+named_path set o (s ∷ steps) = named_first set o s ∷ named_path set (type_next set o s) steps

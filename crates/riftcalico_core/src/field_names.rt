@@ -8,7 +8,7 @@ ghost use Rattle.capnp_schema.specs.Entries.{lists_seen};
 ghost use Rattle.capnp_schema.specs.Query.{field_named, records_of};
 ghost use Rattle.capnp_schema.specs.StructHandles.{IsStruct, number_of, set_of};
 ghost use Rattle.capnp_schema.specs.Types.{seen_type, seen_variant};
-ghost use Rattle.riftcalico_core.specs.FieldNames.{are_name_bytes, is_index, is_name_byte, is_plain_name, name_at, named_field, named_path, named_step};
+ghost use Rattle.riftcalico_core.specs.FieldNames.{are_name_bytes, is_index, is_name_byte, is_plain_name, name_at, named_field, named_first, named_path, named_step, type_next};
 
 use crate::replies::find_type_behind;
 use capnp_base::introspect::{Type, TypeVariant};
@@ -108,7 +108,31 @@ fn name_step<'s>(schemas: &'s SchemaSet, kind: TypeVariant, step: Step<'s>) -> S
     }
 }
 
+/// A step from a type, if there is one, with a field by its name.
+#[tactic(auto, using(capnp_schema::specs::Facts::Layers::seen_which))]
+fn name_first<'s>(schemas: &'s SchemaSet, target: Option<Type>, step: Step<'s>) -> Step<'s>
+    ensures { step_seen result ≡ named_first (lists_seen schemas.now) (option_map seen_type target) (step_seen step.entry) }
+{
+    match target {
+        Some(of) => name_step(schemas, of.which(), step),
+        None => step,
+    }
+}
+
+/// The type behind a step from a type, if there is one.
+#[tactic(auto, using(capnp_schema::specs::Facts::Layers::seen_which))]
+fn find_next(schemas: &SchemaSet, target: Option<Type>, step: Step<'_>) -> Option<Type>
+    ensures { option_map seen_type result
+        ≡ type_next (lists_seen schemas.now) (option_map seen_type target) (step_seen step.entry) }
+{
+    match target {
+        Some(of) => find_type_behind(schemas, of.which(), step),
+        None => None,
+    }
+}
+
 /// A path of a struct, with its fields by their names where that can be. Refused with `OutOfMemory` alone.
+#[tactic(auto, using(crate::proofs::NamedPaths::named_more))]
 pub(crate) fn name_path<'s>(
     alloc: Global,
     schema: StructSchema<'s>,
@@ -123,13 +147,8 @@ pub(crate) fn name_path<'s>(
     let mut named = Vec::with_capacity(alloc, path.len())?;
     let mut target = Some(Type::from(TypeVariant::Struct(schema.into())));
     for step in path {
-        match target {
-            Some(of) => {
-                named.push(name_step(schemas, of.which(), *step))?;
-                target = find_type_behind(schemas, of.which(), *step);
-            }
-            None => named.push(*step)?,
-        }
+        named.push(name_first(schemas, target, *step))?;
+        target = find_next(schemas, target, *step);
     }
     Ok(named)
 }

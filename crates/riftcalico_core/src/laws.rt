@@ -1,5 +1,5 @@
 //! What holds of the lines of changes.
-ghost use Rattle.riftcalico_core.specs.DiffLaws.{ChangeLinesAreRead, LeavesAreReadBack, NamesLeadAlike};
+ghost use Rattle.riftcalico_core.specs.DiffLaws.{ChangeLinesAreRead, LeavesAreReadBack, NamesHaveTargets, NamesHaveTypes};
 
 /// The line of a change is read as its call, along a path on which each field has its name or its number.
 #[tactic(auto, using(crate::proofs::LinesRead::change_lines_are_read))]
@@ -13,8 +13,9 @@ pub fn leaves_are_read_back()
     ensures { LeavesAreReadBack }
 {}
 
-/// The name of a field on such a path leads where its number does.
-#[tactic(auto, using(crate::proofs::LinesRead::names_lead_alike))]
+/// The name of a field on such a path leads where its number does, in a schema and in a record.
+#[tactic(auto, using(crate::proofs::LinesRead::names_have_types, crate::proofs::LinesRead::names_have_targets))]
 pub fn names_lead_alike()
-    ensures { NamesLeadAlike }
+    ensures types { NamesHaveTypes }
+    ensures targets { NamesHaveTargets }
 {}
