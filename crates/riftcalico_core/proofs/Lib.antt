@@ -26,3 +26,4 @@ pub mod Unreached
 pub mod Unread
 pub mod ValueTexts
 pub mod WholeAnswers
+pub mod WordlessLines

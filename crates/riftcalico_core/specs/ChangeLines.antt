@@ -27,8 +27,8 @@ use Rattle.capnp_schema.specs.Types.{SchemaType}
 use Rattle.capnp_words.specs.Calls.{Clear, Init, Set, op_word}
 use Rattle.capnp_words.specs.Marked.{marked_value_by_word}
 use Rattle.capnp_words.specs.Reads.{Read as WordRead}
+use Rattle.riftcalico_core.specs.AllFaults.{part_note}
 use Rattle.riftcalico_core.specs.FieldNames.{named_path}
-use Rattle.riftcalico_core.specs.Notes.{at_note, words_behind_points}
 use Rattle.riftcalico_core.specs.Replies.{Unknown, types_along}
 use Rattle.riftcalico_core.specs.declared.change_line.NoWord.{NoWord}
 use Rattle.riftcalico_core.specs.declared.change_line.NoWord.TheVariants as none
@@ -143,4 +143,4 @@ cause_name (none.Refused why) = json_error_name why
 
 -- one of them as a line, with the place in the newer message
 abbrev pub wordless_line : NoWord → List PathStep → List ℕ
-wordless_line why path = codes "refused: " ++ decimal (cause_number why) ++ codes " " ++ cause_name why ++ at_note (words_behind_points path) ++ codes "\n"
+wordless_line why path = codes "refused: " ++ decimal (cause_number why) ++ codes " " ++ cause_name why ++ part_note path [] ++ codes "\n"

@@ -8,7 +8,7 @@ use Rattle.capnp_diffs.specs.declared.change.Change.{Change as FoundChange}
 use Rattle.capnp_call.specs.declared.calls.Op.{Op}
 use Rattle.capnp_call.specs.declared.calls.Op.TheVariants as op
 use Rattle.capnp_dynamic_readers.specs.declared.dynamic_value.Reader.{Reader as DynamicValue}
-use Rattle.capnp_json.specs.declared.error.JsonError.TheVariants.{Read}
+use Rattle.capnp_json.specs.declared.error.JsonError.TheVariants.{Read, TooLarge}
 use Rattle.capnp_queries.specs.Floats.{form_at}
 use Rattle.capnp_records.specs.Call.{PathStep}
 use Rattle.capnp_records.specs.Reading.{reads}
@@ -20,11 +20,12 @@ use Rattle.capnp_wire.specs.Depth.{message_levels}
 use Rattle.capnp_wire.specs.Reading.{as_struct}
 use Rattle.capnp_wire.specs.Stream.{message_tree_of}
 use Rattle.capnp_wire.specs.Tree.{StructTree, Tree}
+use Rattle.capnp_words.specs.Calls.{Clear, Init, op_word}
+use Rattle.riftcalico_core.specs.AllFaults.{part_note}
 use Rattle.riftcalico_core.specs.ChangeLines.{IsChangeLine, IsWordless, change_path, is_own, set_heading, wordless_line}
 use Rattle.riftcalico_core.specs.Gets.{IsBytesOutput}
 use Rattle.riftcalico_core.specs.Inputs.{message_in}
 use Rattle.riftcalico_core.specs.Lines.{AreLinesOf, IsFirstOf}
-use Rattle.riftcalico_core.specs.Notes.{at_note, words_behind_points}
 use Rattle.riftcalico_core.specs.Quiet.{IsQuiet}
 use Rattle.riftcalico_core.specs.Replies.{types_along}
 use Rattle.riftcalico_core.specs.Shown.{IsNotShown}
@@ -88,12 +89,18 @@ pub record IsUntoldLine (left : ℕ) (s : StructSchema) (c : FoundChange) (why :
 -- or it can't be read, and the path is told
 pub record IsUnreadLine (left : ℕ) (s : StructSchema) (c : FoundChange) (f : Fault) : Type 0 where
   pub none : IsOpWordless left s (path_of s c) c.op (none.Refused (Read f.error.kind))
-  pub note : string_bytes f.note ≡ at_note (words_behind_points (path_of s c))
+  pub note : string_bytes f.note ≡ part_note (path_of s c) []
 
--- or each line of the change is longer than what is left
+-- a line is longer than what is left: what stands before a value, or that with its word
+abbrev pub IsOpLong : (left : ℕ) → StructSchema → List PathStep → Op → Type 0
+IsOpLong left s path (op.Set v) = (left < length (set_heading path)) ⊎ IsPutWordless left s path v (none.Refused TooLarge)
+IsOpLong left s path op.Init = left < length (op_word path Init)
+IsOpLong left s path o = left < length (op_word path Clear)
+
+-- or the line of the change is
 pub record IsLongLine (left : ℕ) (s : StructSchema) (c : FoundChange) (f : Fault) : Type 0 where
   pub kind_is : f.error.kind ≡ kind.TooLarge
-  pub longer : (line : List ℕ) → IsLine s c line → left < length line
+  pub longer : IsOpLong left s (path_of s c) c.op
   pub note : string_bytes f.note ≡ []
 
 abbrev pub IsLineless : (left : ℕ) → StructSchema → FoundChange → Fault → Type 0

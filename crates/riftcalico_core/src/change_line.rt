@@ -1,5 +1,6 @@
 //! The line of a change: the word of its call, as `patch` reads it.
 ghost use Rattle.std.specs.Prelude.{false, ◌≡◌, ◌≤◌, ◌++◌, IfErr, IfOk, MatchOption, length};
+ghost use Rattle.std.specs.Str.{is_utf8};
 ghost use Rattle.capnp_call.specs.Seen.{path_seen};
 ghost use Rattle.capnp_call.specs.declared.calls.Op.TheVariants.{Set as SetTo};
 ghost use Rattle.capnp_device.specs.declared.error.ErrorKind.TheVariants.{OutOfMemory};
@@ -193,12 +194,23 @@ fn is_read_back(
     }
 }
 
+/// Whether bytes are UTF-8.
+#[tactic(auto, using(crate::proofs::Texts::is_text, crate::proofs::Texts::is_no_text))]
+fn is_utf8(bytes: &[u8]) -> bool
+    ensures { result ≡ is_utf8 bytes.now }
+{
+    match str::from_utf8(bytes) {
+        Ok(_) => true,
+        Err(_) => false,
+    }
+}
+
 /// Whether a value is a text that is not UTF-8.
 fn is_no_utf8(value: Value<'_>) -> bool
     ensures { result ≡ is_no_utf8 value.entry }
 {
     match value {
-        Value::Text(text) => str::from_utf8(text.0).is_err(),
+        Value::Text(text) => !is_utf8(text.0),
         _ => false,
     }
 }
@@ -262,7 +274,8 @@ fn get_value_word(
 {
     let form = get_form_at(schema, path);
     match value {
-        Value::Struct(_) | Value::List(_) => get_whole_word(alloc, value, form, limit),
+        Value::Struct(_) => get_whole_word(alloc, value, form, limit),
+        Value::List(_) => get_whole_word(alloc, value, form, limit),
         Value::AnyPointer(_) => Err(NoWord::Refused(JsonError::UntypedHasNoJson)),
         _ => {
             let root = Type::from(TypeVariant::Struct(schema.into()));

@@ -8,11 +8,13 @@ ghost use Rattle.capnp_records.specs.Reading.{reads};
 ghost use Rattle.capnp_schema.specs.StructHandles.{IsStruct, number_of, set_of};
 ghost use Rattle.capnp_schema.specs.declared.schema.structs.StructSchema.{StructSchema as StructHandle};
 ghost use Rattle.capnp_wire.specs.Standing.{struct_of};
+ghost use Rattle.riftcalico_core.specs.AllFaults.{part_note};
 ghost use Rattle.riftcalico_core.specs.ChangeLines.{wordless_line};
 ghost use Rattle.riftcalico_core.specs.Diffs.{HasRootRecord, IsDiffAnswer, IsLine, IsLineless, IsNotDiffed, IsNotFound, IsRootless, IsToldOrPut, path_of};
 ghost use Rattle.riftcalico_core.specs.Inputs.{message_in};
 ghost use Rattle.riftcalico_core.specs.Lines.{AreLinesOf, IsFirstOf};
 ghost use Rattle.riftcalico_core.specs.Shown.{IsNotShown};
+ghost use Rattle.riftcalico_core.specs.Steps.Told.{IsToldAs};
 ghost use Rattle.riftcalico_core.specs.Steps.Wordless.{AreWithoutLines, HasNoLine, IsWithoutLine};
 ghost use Rattle.riftcalico_core.specs.declared.fault.Blamed.TheVariants.{Calls, Input};
 
@@ -139,6 +141,19 @@ fn get_wordless_line(alloc: Global, why: NoWord, path: &[Step<'_>]) -> Result<St
     Ok(line)
 }
 
+/// A refusal of what stands at a path of the newer message, with the path; or that there is no memory for its note.
+fn tell_unread(alloc: Global, path: &[Step<'_>], kind: ErrorKind) -> Fault
+    ensures told { result.error.kind ≢ OutOfMemory → IsToldAs kind (part_note (path_seen path.now) []) result }
+    ensures blamed { result.blamed ≡ Calls }
+{
+    let fault = tell_path(alloc, path, kind);
+    Fault {
+        error: fault.error,
+        blamed: Blamed::Calls,
+        note: fault.note,
+    }
+}
+
 /// Why a change has no line.
 fn explain_line(alloc: Global, why: NoWord, path: &[Step<'_>]) -> NoLines
     ensures { (left : ℕ) (s : StructHandle) (c : FoundChange) → path_of s c ≡ path_seen path.now
@@ -146,7 +161,7 @@ fn explain_line(alloc: Global, why: NoWord, path: &[Step<'_>]) -> NoLines
 {
     match why {
         NoWord::Refused(JsonError::Read(kind)) => {
-            NoLines::Refused(blame_newer(tell_path(alloc, path, kind)))
+            NoLines::Refused(tell_unread(alloc, path, kind))
         }
         NoWord::Refused(JsonError::TooLarge) => NoLines::Refused(get_fault(
             alloc,

@@ -6,12 +6,10 @@ use Rattle.capnp_call.specs.declared.calls.Op.{Op}
 use Rattle.capnp_diffs.specs.declared.change.Change.{Change as FoundChange}
 use Rattle.capnp_dynamic_readers.specs.declared.dynamic_value.Reader.{Reader as DynamicValue}
 use Rattle.capnp_dynamic_readers.specs.declared.dynamic_value.Reader.TheVariants as dynamic
-use Rattle.capnp_json.specs.declared.error.JsonError.TheVariants.{OutOfMemory, Read, TextNotUtf8, TooLarge, UntypedHasNoJson}
+use Rattle.capnp_json.specs.declared.error.JsonError.TheVariants.{OutOfMemory, Read, TooLarge}
 use Rattle.capnp_records.specs.Call.{PathStep}
-use Rattle.capnp_schema.specs.StructHandles.{number_of, set_of}
 use Rattle.capnp_schema.specs.declared.schema.structs.StructSchema.{StructSchema}
-use Rattle.riftcalico_core.specs.ChangeLines.{IsOpLine, wordless_line}
-use Rattle.riftcalico_core.specs.Diffs.{IsLine, IsLineless, IsOpWordless, IsUntoldLine}
+use Rattle.riftcalico_core.specs.Diffs.{IsLine, IsLineless, IsOpLong, IsOpWordless, IsUntoldLine}
 use Rattle.riftcalico_core.specs.Lines.{IsFirstOf}
 use Rattle.riftcalico_core.specs.declared.change_line.NoWord.{NoWord}
 use Rattle.riftcalico_core.specs.declared.change_line.NoWord.TheVariants as none
@@ -45,7 +43,7 @@ IsLineCut left line why = (why ≡ none.Refused OutOfMemory) ⊎ ((why ≡ none.
 -- along a path there is no line, for this cause
 abbrev pub HasNoLine : (left : ℕ) → StructSchema → List PathStep → Op → NoWord → Type 0
 HasNoLine left s path op (none.Refused OutOfMemory) = ⊤
-HasNoLine left s path op (none.Refused TooLarge) = (line : List ℕ) → IsOpLine (set_of s) (number_of s) path op line → left < length line
+HasNoLine left s path op (none.Refused TooLarge) = IsOpLong left s path op
 HasNoLine left s path op why = IsOpWordless left s path op why
 
 -- a change has none
