@@ -12,6 +12,7 @@ pub mod LinesRead
 pub mod ListingsAsked
 pub mod NamedPaths
 pub mod NearNames
+pub mod NewerBlamed
 pub mod NotShown
 pub mod Noted
 pub mod NumberedLines

@@ -7,6 +7,7 @@ ghost use Rattle.capnp_device.specs.declared.error.ErrorKind.TheVariants.{OutOfM
 ghost use Rattle.capnp_diffs.specs.Changes.{same_leaf};
 ghost use Rattle.capnp_diffs.specs.Steps.Leaves.{integer_seen, is_integer};
 ghost use Rattle.capnp_dynamic_readers.specs.Seen.{value_seen};
+ghost use Rattle.capnp_dynamic_readers.specs.declared.dynamic_value.Reader.TheVariants.{List as ListOf, Struct as StructOf};
 ghost use Rattle.capnp_json.specs.Pieces.{IsJson};
 ghost use Rattle.capnp_json.specs.Written.{written_json_as};
 ghost use Rattle.capnp_queries.specs.Floats.{form_at};
@@ -29,6 +30,7 @@ use capnp_base::introspect::{Type, TypeVariant};
 use capnp_call::calls::{Op, Step};
 use capnp_diffs::change::Change;
 use capnp_dynamic_readers::dynamic_value::Reader as Value;
+use capnp_dynamic_readers::{dynamic_list, dynamic_struct};
 use capnp_json::error::JsonError;
 use capnp_json::forms::Form;
 use capnp_json::json::to_json_as;
@@ -255,6 +257,48 @@ fn get_whole_word(alloc: Global, value: Value<'_>, form: Form, limit: u64) -> Wo
     }
 }
 
+/// The word of a struct that is put at a path.
+fn get_struct_word(
+    alloc: Global,
+    schema: StructSchema<'_>,
+    path: &[Step<'_>],
+    reader: dynamic_struct::Reader<'_>,
+    limit: u64,
+) -> Worded
+    requires { IsStruct schema }
+    ensures word { IfOk result (λ word. IsPutWord (set_of schema.entry) (number_of schema.entry) (path_seen path.now)
+        (StructOf reader.entry) word.items) }
+    ensures within { IfOk result (λ word. length word.items ≤ limit) }
+    ensures refused { IfErr result (IsWordless limit (set_of schema.entry)
+        (form_at (set_of schema.entry) (number_of schema.entry) (path_seen path.now))
+        (types_along (set_of schema.entry) (root_type (set_of schema.entry) (number_of schema.entry)) (path_seen path.now))
+        (StructOf reader.entry)) }
+{
+    let form = get_form_at(schema, path);
+    get_whole_word(alloc, Value::Struct(reader), form, limit)
+}
+
+/// The word of a list that is put at a path.
+fn get_list_word(
+    alloc: Global,
+    schema: StructSchema<'_>,
+    path: &[Step<'_>],
+    list: dynamic_list::Reader<'_>,
+    limit: u64,
+) -> Worded
+    requires { IsStruct schema }
+    ensures word { IfOk result (λ word. IsPutWord (set_of schema.entry) (number_of schema.entry) (path_seen path.now)
+        (ListOf list.entry) word.items) }
+    ensures within { IfOk result (λ word. length word.items ≤ limit) }
+    ensures refused { IfErr result (IsWordless limit (set_of schema.entry)
+        (form_at (set_of schema.entry) (number_of schema.entry) (path_seen path.now))
+        (types_along (set_of schema.entry) (root_type (set_of schema.entry) (number_of schema.entry)) (path_seen path.now))
+        (ListOf list.entry)) }
+{
+    let form = get_form_at(schema, path);
+    get_whole_word(alloc, Value::List(list), form, limit)
+}
+
 /// The word of a value that is put at a path, of at most so many bytes.
 fn get_value_word(
     alloc: Global,
@@ -272,15 +316,15 @@ fn get_value_word(
         (types_along (set_of schema.entry) (root_type (set_of schema.entry) (number_of schema.entry)) (path_seen path.now))
         value.entry) }
 {
-    let form = get_form_at(schema, path);
     match value {
-        Value::Struct(_) => get_whole_word(alloc, value, form, limit),
-        Value::List(_) => get_whole_word(alloc, value, form, limit),
+        Value::Struct(reader) => get_struct_word(alloc, schema, path, reader, limit),
+        Value::List(list) => get_list_word(alloc, schema, path, list, limit),
         Value::AnyPointer(_) => Err(NoWord::Refused(JsonError::UntypedHasNoJson)),
         _ => {
             let root = Type::from(TypeVariant::Struct(schema.into()));
             let schemas = schema.get_set();
             let target = walk_types(schemas, root, path);
+            let form = get_form_at(schema, path);
             get_leaf_word(alloc, schemas, target, form, value, limit)
         }
     }

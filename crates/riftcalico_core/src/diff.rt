@@ -1,5 +1,5 @@
 //! The calls that make one message into another, as lines that `patch` reads.
-ghost use Rattle.std.specs.Prelude.{ℕ, [], ◌+◌, ◌≡◌, ◌≢◌, ◌≤◌, ◌⊎◌, IfErr, IfOk, IfSome, Ok, length, string_bytes};
+ghost use Rattle.std.specs.Prelude.{ℕ, [], true, ◌+◌, ◌≡◌, ◌≢◌, ◌≤◌, ◌⊎◌, IfErr, IfOk, IfSome, Ok, length, string_bytes};
 ghost use Rattle.capnp_call.specs.Seen.{path_seen};
 ghost use Rattle.capnp_device.specs.declared.error.ErrorKind.TheVariants.{OutOfMemory};
 ghost use Rattle.capnp_diffs.specs.declared.change.Change.{Change as FoundChange};
@@ -16,6 +16,7 @@ ghost use Rattle.riftcalico_core.specs.Lines.{AreLinesOf, IsFirstOf};
 ghost use Rattle.riftcalico_core.specs.Shown.{IsNotShown};
 ghost use Rattle.riftcalico_core.specs.Steps.Told.{IsToldAs};
 ghost use Rattle.riftcalico_core.specs.Steps.Wordless.{AreWithoutLines, HasNoLine, IsWithoutLine};
+ghost use Rattle.riftcalico_core.specs.declared.answer.Output.TheVariants.{Nothing};
 ghost use Rattle.riftcalico_core.specs.declared.fault.Blamed.TheVariants.{Calls, Input};
 
 use crate::answer::{Answer, Output, answer_quietly};
@@ -83,7 +84,6 @@ fn find_kind(
 ) -> Result<Option<Fault>>
     requires { IsStruct schema }
     ensures found { IfOk result (λ found. IfSome found (IsNotShown schema.entry [] message.now)) }
-    ensures kind { IfOk result (λ found. IfSome found (λ f. f.error.kind ≡ kind)) }
     ensures blamed { IfOk result (λ found. IfSome found (λ f. f.blamed ≡ Input)) }
     ensures memory { IfErr result (λ e. e.kind ≡ OutOfMemory) }
 {
@@ -110,7 +110,6 @@ fn explain_changes(
 ) -> Fault
     requires { IsStruct schema }
     ensures found { result.error.kind ≢ OutOfMemory → IsNotFound schema.entry old.now new.now result }
-    ensures kind { result.error.kind ≢ OutOfMemory → result.error.kind ≡ error.kind }
     ensures blamed { (result.blamed ≡ Input) ⊎ (result.blamed ≡ Calls) }
 {
     if error.kind == ErrorKind::OutOfMemory {
@@ -231,6 +230,19 @@ fn get_change_lines<'a>(
     Ok(lines)
 }
 
+/// The answer that tells a line and writes nothing.
+fn tell_line(lines: String) -> Answer
+    ensures lines { result.lines ≡ lines }
+    ensures output { result.output ≡ Nothing }
+    ensures refused { result.refused ≡ true }
+{
+    Answer {
+        output: Output::Nothing,
+        lines,
+        refused: true,
+    }
+}
+
 /// The lines of changes, or what is told where a value has no word.
 fn answer_changes<'a>(
     alloc: Global,
@@ -247,11 +259,7 @@ fn answer_changes<'a>(
     match get_change_lines(alloc, schema, changes, limit) {
         Ok(lines) => Ok(answer_quietly(alloc, Output::Bytes(lines))),
         Err(NoLines::Refused(fault)) => Err(fault),
-        Err(NoLines::Told(lines)) => Ok(Answer {
-            output: Output::Nothing,
-            lines,
-            refused: true,
-        }),
+        Err(NoLines::Told(lines)) => Ok(tell_line(lines)),
     }
 }
 
