@@ -3,6 +3,7 @@ pub mod CallsGiven
 pub mod ChangesLined
 pub mod ChangesTold
 pub mod Counted
+pub mod DiffsAnswered
 pub mod Each
 pub mod FirstOf
 pub mod HeadedLines

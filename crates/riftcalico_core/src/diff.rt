@@ -264,6 +264,7 @@ fn answer_changes<'a>(
 }
 
 /// The lines of what makes a message into a newer one, which is not packed.
+#[tactic(auto, using(crate::proofs::DiffsAnswered::old_rootless, crate::proofs::DiffsAnswered::new_rootless, crate::proofs::DiffsAnswered::not_found, crate::proofs::DiffsAnswered::diff_answered, crate::proofs::DiffsAnswered::one_lineless))]
 fn diff_messages(alloc: Global, job: &DiffJob<'_, '_>, old: &[u8], new: &[u8]) -> Faulty<Answer>
     requires stands { IsStruct job.now.schema }
     requires newer { message_in job.now.packed job.now.newer.now ≡ Ok new.now }
@@ -271,11 +272,21 @@ fn diff_messages(alloc: Global, job: &DiffJob<'_, '_>, old: &[u8], new: &[u8]) -
     ensures refused { IfErr result (λ f. f.error.kind ≢ OutOfMemory → IsNotDiffed job.now old.now f) }
     ensures blamed { IfErr result (λ f. (f.blamed ≡ Input) ⊎ (f.blamed ≡ Calls)) }
 {
-    let source = blame(alloc, read_root(alloc, job.schema, old), Blamed::Input)?;
-    let target = blame(alloc, read_root(alloc, job.schema, new), Blamed::Calls)?;
-    match find_changes(alloc, source, target) {
-        Ok(changes) => answer_changes(alloc, job.schema, &changes, job.limit),
-        Err(error) => Err(explain_changes(alloc, job.schema, old, new, error)),
+    let source = match read_root(alloc, job.schema, old) {
+        Ok(root) => root,
+        Err(error) => return Err(get_fault(alloc, error, Blamed::Input)),
+    };
+    let target = match read_root(alloc, job.schema, new) {
+        Ok(root) => root,
+        Err(error) => return Err(get_fault(alloc, error, Blamed::Calls)),
+    };
+    let changes = match find_changes(alloc, source, target) {
+        Ok(changes) => changes,
+        Err(error) => return Err(explain_changes(alloc, job.schema, old, new, error)),
+    };
+    match answer_changes(alloc, job.schema, &changes, job.limit) {
+        Ok(answer) => Ok(answer),
+        Err(fault) => Err(fault),
     }
 }
 
