@@ -150,7 +150,7 @@ static TOLD: [(&str, &str, &str, &str); 15] = [
         "Mixed",
         "0000000001000000 0100000002000000",
         FULL,
-        "true 1 refused: 4 BadPointer (set)\n|",
+        "true 1 refused: 5 WrongPointerKind (set)\n|",
     ),
     (
         "Mixed",

@@ -1,8 +1,10 @@
 -- What two messages come to, by their roots and the changes between them.
-use Rattle.std.proofs.Common.{ℕ, List, Ok, inl, inr, subst, sym, ◌≡◌, ◌≢◌}
+use Rattle.std.proofs.Common.{ℕ, List, Ok, ap, inl, inr, subst, sym, ◌≡◌, ◌≢◌}
 use Rattle.capnp_device.specs.declared.error.Error.{Error}
+use Rattle.capnp_device.specs.declared.error.ErrorKind.{ErrorKind}
 use Rattle.capnp_diffs.specs.Changes.{IsRecordTold, record_changes}
 use Rattle.capnp_diffs.specs.Found.{AreReady, changes_seen}
+use Rattle.capnp_diffs.specs.Refusals.{IsRefusal, pair_of}
 use Rattle.capnp_diffs.specs.declared.change.Change.{Change as FoundChange}
 use Rattle.capnp_dynamic_readers.specs.Handles.{reader_of, schema_of}
 use Rattle.capnp_dynamic_readers.specs.declared.dynamic_struct.Reader.{Reader as StructHandle}
@@ -10,8 +12,8 @@ use Rattle.capnp_records.specs.Reading.{reads}
 use Rattle.capnp_records.specs.Record.{Record}
 use Rattle.capnp_schema.specs.StructHandles.{number_of, set_of}
 use Rattle.capnp_schema.specs.declared.schema.structs.StructSchema.{StructSchema}
-use Rattle.capnp_wire.specs.Standing.{struct_of}
-use Rattle.riftcalico_core.specs.Diffs.{AreDiffs, HasRootRecord, IsDiffAnswer, IsLine, IsLineless, IsNotDiffed, IsNotFound, IsRootless, IsToldOrPut}
+use Rattle.capnp_wire.specs.Standing.{struct_levels, struct_of}
+use Rattle.riftcalico_core.specs.Diffs.{AreDiffs, HasRootRecord, IsDiffAnswer, IsLine, IsLineless, IsNotDiffed, IsPlaceTold, IsRootStruct, IsRootless, IsToldOrPut}
 use Rattle.riftcalico_core.specs.Faults.{IsPlainFault}
 use Rattle.riftcalico_core.specs.Inputs.{message_in}
 use Rattle.riftcalico_core.specs.Lines.{IsFirstOf}
@@ -31,8 +33,19 @@ module _ (j : DiffJob) (old new : List ℕ) (has : message_in j.packed j.newer.n
   pub new_rootless : (f : Fault) (e : Error) → IsRootless new e.kind → IsPlainFault f e blamed.Calls → IsNotDiffed j old f
   new_rootless f e cause p = inr (new, has, inr (inl (record { blames = p.blamed; cause = subst (λ (x : Error). IsRootless new x.kind) (sym p.error) cause; note = p.note })))
 
-  pub not_found : (f : Fault) → IsNotFound j.schema old new f → IsNotDiffed j old f
-  not_found f h = inr (new, has, inr (inr (inl h)))
+  -- the structs that two handles stand on are those of the roots, and what refuses them is so of the refusal that tells it
+  pub not_found : (source target : StructHandle) → schema_of target ≡ j.schema → IsRootStruct old (struct_of (reader_of source)) (struct_levels (reader_of source)) →
+      IsRootStruct new (struct_of (reader_of target)) (struct_levels (reader_of target)) → (k : ErrorKind) → IsRefusal (pair_of source target) k → (f : Fault) → f.error.kind ≡ k → IsPlaceTold j.schema old new f → IsNotDiffed j old f
+  not_found source target same is_old is_new k cause f is_kind told = inr (
+    new,
+    has,
+    inr (inr (inl (record {
+      pair = pair_of source target;
+      roots = record { set_is = ap set_of same; brand_is = ap number_of same; is_old = is_old; is_new = is_new };
+      cause = subst (λ (x : ErrorKind). IsRefusal (pair_of source target) x) (sym is_kind) cause;
+      told = told;
+    }))),
+  )
 
   module _ (source target : StructHandle) (changes : List FoundChange) (same : schema_of target ≡ j.schema)
       (is_old : HasRootRecord j.schema old (record_under j.schema source)) (is_new : HasRootRecord j.schema new (record_under j.schema target))

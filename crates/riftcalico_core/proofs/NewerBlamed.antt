@@ -4,12 +4,12 @@ use Rattle.capnp_device.specs.declared.error.Error.{Error}
 use Rattle.capnp_patch.specs.Places.{IsRefusedAt}
 use Rattle.capnp_schema.specs.StructHandles.{number_of, set_of}
 use Rattle.capnp_schema.specs.declared.schema.structs.StructSchema.{StructSchema}
-use Rattle.riftcalico_core.specs.Diffs.{IsNotFound}
+use Rattle.riftcalico_core.specs.Diffs.{IsPlaceTold}
 use Rattle.riftcalico_core.specs.Shown.{IsNotShown}
 use Rattle.riftcalico_core.specs.declared.fault.Blamed.TheVariants as blamed
 use Rattle.riftcalico_core.specs.declared.fault.Fault.{Fault}
 
-pub newer_unread : (s : StructSchema) (old new : List ℕ) (f g : Fault) → IsNotShown s [] new f → g.error ≡ f.error → g.note ≡ f.note → g.blamed ≡ blamed.Calls → IsNotFound s old new g
+pub newer_unread : (s : StructSchema) (old new : List ℕ) (f g : Fault) → IsNotShown s [] new f → g.error ≡ f.error → g.note ≡ f.note → g.blamed ≡ blamed.Calls → IsPlaceTold s old new g
 newer_unread s old new f g is error note blames = inr (inl (
   blames,
   record {

@@ -4,6 +4,7 @@ use Rattle.capnp_device.specs.declared.error.ErrorKind.{ErrorKind}
 use Rattle.capnp_device.specs.declared.error.ErrorKind.TheVariants as kind
 use Rattle.capnp_diffs.specs.Changes.{IsRecordTold, record_changes}
 use Rattle.capnp_diffs.specs.Found.{AreReady, changes_seen}
+use Rattle.capnp_diffs.specs.Refusals.{IsRefusal, Pair}
 use Rattle.capnp_diffs.specs.declared.change.Change.{Change as FoundChange}
 use Rattle.capnp_call.specs.declared.calls.Op.{Op}
 use Rattle.capnp_call.specs.declared.calls.Op.TheVariants as op
@@ -46,6 +47,20 @@ pub record HasRootRecord (s : StructSchema) (bytes : List ℕ) (r : Record) : Ty
   pub body : StructTree
   pub read : as_struct root message_levels ≡ Ok body
   pub record_is : r ≡ reads (set_of s) body (number_of s)
+
+-- the struct at the root of the first message in these bytes, with the levels that are left below it
+pub record IsRootStruct (bytes : List ℕ) (body : StructTree) (levels : ℕ) : Type 0 where
+  pub root : Tree
+  pub message : message_tree_of bytes ≡ Ok root
+  pub read : as_struct root message_levels ≡ Ok body
+  pub left : levels + 1 ≡ message_levels
+
+-- the structs at the roots of two messages, under one schema
+pub record AreRoots (s : StructSchema) (bytes newer : List ℕ) (p : Pair) : Type 0 where
+  pub set_is : p.set ≡ set_of s
+  pub brand_is : p.brand ≡ number_of s
+  pub is_old : IsRootStruct bytes p.old p.old_levels
+  pub is_new : IsRootStruct newer p.new p.new_levels
 
 -- the message is refused, or its root as a struct
 abbrev pub IsRootless : (bytes : List ℕ) → ErrorKind → Type 0
@@ -147,11 +162,18 @@ pub record IsNotUnpacked (j : DiffJob) (f : Fault) : Type 0 where
   pub cause : message_in j.packed j.newer.now ≡ Err f.error.kind
   pub note : string_bytes f.note ≡ []
 
--- No changes are found: a part of one message can't be read, and its place is told, of the older one first; or it is the newer one that no call makes.
-abbrev pub IsNotFound : StructSchema → (bytes newer : List ℕ) → Fault → Type 0
-IsNotFound s bytes newer f =
+-- A part of one message can't be read, and its place is told, of the older one first; or no place is, of the newer one.
+abbrev pub IsPlaceTold : StructSchema → (bytes newer : List ℕ) → Fault → Type 0
+IsPlaceTold s bytes newer f =
     ((f.blamed ≡ blamed.Input) × IsNotShown s [] bytes f)
     ⊎ (((f.blamed ≡ blamed.Calls) × IsNotShown s [] newer f) ⊎ ((f.blamed ≡ blamed.Calls) × (string_bytes f.note ≡ [])))
+
+-- no changes are found: what is compared of the two roots refuses it
+pub record IsNotFound (s : StructSchema) (bytes newer : List ℕ) (f : Fault) : Type 0 where
+  pub pair : Pair
+  pub roots : AreRoots s bytes newer pair
+  pub cause : IsRefusal pair f.error.kind
+  pub told : IsPlaceTold s bytes newer f
 
 -- a change has no line
 pub record IsOneLineless (j : DiffJob) (bytes : List ℕ) (f : Fault) : Type 0 where

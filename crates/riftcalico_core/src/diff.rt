@@ -7,10 +7,10 @@ ghost use Rattle.capnp_dynamic_readers.specs.Handles.{reader_of, schema_of};
 ghost use Rattle.capnp_records.specs.Reading.{reads};
 ghost use Rattle.capnp_schema.specs.StructHandles.{IsStruct, number_of, set_of};
 ghost use Rattle.capnp_schema.specs.declared.schema.structs.StructSchema.{StructSchema as StructHandle};
-ghost use Rattle.capnp_wire.specs.Standing.{struct_of};
+ghost use Rattle.capnp_wire.specs.Standing.{struct_levels, struct_of};
 ghost use Rattle.riftcalico_core.specs.AllFaults.{part_note};
 ghost use Rattle.riftcalico_core.specs.ChangeLines.{wordless_line};
-ghost use Rattle.riftcalico_core.specs.Diffs.{HasRootRecord, IsDiffAnswer, IsLine, IsLineless, IsNotDiffed, IsNotFound, IsRootless, IsToldOrPut, path_of};
+ghost use Rattle.riftcalico_core.specs.Diffs.{HasRootRecord, IsDiffAnswer, IsLine, IsLineless, IsNotDiffed, IsPlaceTold, IsRootStruct, IsRootless, IsToldOrPut, path_of};
 ghost use Rattle.riftcalico_core.specs.Inputs.{message_in};
 ghost use Rattle.riftcalico_core.specs.Lines.{AreLinesOf, IsFirstOf};
 ghost use Rattle.riftcalico_core.specs.Shown.{IsNotShown};
@@ -55,6 +55,7 @@ fn read_root<'a>(
     ensures schema { IfOk result (λ r. schema_of r ≡ schema.entry) }
     ensures record { IfOk result (λ r. HasRootRecord schema.entry bytes.now
         (reads (set_of schema.entry) (struct_of (reader_of r)) (number_of schema.entry))) }
+    ensures root { IfOk result (λ r. IsRootStruct bytes.now (struct_of (reader_of r)) (struct_levels (reader_of r))) }
     ensures refused { IfErr result (λ e. IsRootless bytes.now e.kind) }
 {
     let message = Reader::new(alloc, bytes)?;
@@ -84,6 +85,7 @@ fn find_kind(
 ) -> Result<Option<Fault>>
     requires { IsStruct schema }
     ensures found { IfOk result (λ found. IfSome found (IsNotShown schema.entry [] message.now)) }
+    ensures kind { IfOk result (λ found. IfSome found (λ f. f.error.kind ≡ kind)) }
     ensures blamed { IfOk result (λ found. IfSome found (λ f. f.blamed ≡ Input)) }
     ensures memory { IfErr result (λ e. e.kind ≡ OutOfMemory) }
 {
@@ -109,7 +111,8 @@ fn explain_changes(
     error: Error,
 ) -> Fault
     requires { IsStruct schema }
-    ensures found { result.error.kind ≢ OutOfMemory → IsNotFound schema.entry old.now new.now result }
+    ensures told { result.error.kind ≢ OutOfMemory → IsPlaceTold schema.entry old.now new.now result }
+    ensures kind { result.error.kind ≢ OutOfMemory → result.error.kind ≡ error.kind }
     ensures blamed { (result.blamed ≡ Input) ⊎ (result.blamed ≡ Calls) }
 {
     if error.kind == ErrorKind::OutOfMemory {
