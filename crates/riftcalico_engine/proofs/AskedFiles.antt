@@ -13,17 +13,12 @@ module _ {O F : Type 0} (opens : Opens O F) where
   file_asked file path old new answer e h =
       subst (λ (x : Option (Bor (List ℕ))). AsksAmong opens (file_paths (option_map (λ f. f.now) x)) old new) (sym e) (one_asked opens path.now old new answer h)
 
-  -- one file, where one is named, and then some
-  pub first_and_others : (first : Option (List ℕ)) (paths : List (List ℕ)) (old mid new : O) → AsksAmong opens (file_paths first) old mid → AsksAmong opens paths mid new →
-      AsksAmong opens (file_paths first ++ paths) old new
-  unfolding AsksAmong
-  first_and_others None paths old mid new h k = subst (λ (o : O). AsksAmong opens paths o new) h k
-  first_and_others (Some path) paths old mid new h k = then_asked opens path paths old mid new h k
-
   -- one file, and then another
   pub both_asked : (first second : Option (List ℕ)) (old mid new : O) → AsksAmong opens (file_paths first) old mid → AsksAmong opens (file_paths second) mid new →
       AsksAmong opens (file_paths first ++ file_paths second) old new
-  both_asked first second old mid new h k = first_and_others first (file_paths second) old mid new h k
+  unfolding AsksAmong
+  both_asked None second old mid new h k = subst (λ (o : O). AsksAmong opens (file_paths second) o new) h k
+  both_asked (Some path) second old mid new h k = then_asked opens path (file_paths second) old mid new h k
 
   -- the first alone
   pub first_asked : (first second : Option (List ℕ)) (old new : O) → AsksAmong opens (file_paths first) old new → AsksAmong opens (file_paths first ++ file_paths second) old new

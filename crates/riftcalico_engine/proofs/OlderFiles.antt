@@ -1,15 +1,12 @@
 -- What is done from the file of an older message, which is opened first, or from the source, where no such file is named.
-use Rattle.std.proofs.Common.{Bor, ◌++◌, ◌≡◌, Err, List, None, Ok, Option, Result, Some, inl, inr, refl, subst, sym, ℕ}
+use Rattle.std.proofs.Common.{Bor, ◌++◌, ◌∷◌, ◌≡◌, List, None, Option, Result, Some, refl, subst, sym, ℕ}
 use Rattle.std.specs.Option.{option_map}
 use Rattle.capnp_device.specs.declared.device.DeviceFault.{DeviceFault}
-use Rattle.capnp_device.specs.declared.error.ErrorKind.TheVariants.{ReadFailed}
-use Rattle.capnp_show_engine.specs.Facts.Opening.{none_asked, one_asked}
+use Rattle.capnp_show_engine.specs.Facts.Opening.{none_asked, one_asked, then_asked}
 use Rattle.capnp_show_engine.specs.Opened.{AsksAmong, file_paths}
-use Rattle.riftcalico_core.specs.declared.fault.Blamed.TheVariants as blamed
-use Rattle.riftcalico_engine.proofs.AskedFiles.{first_and_others}
 use Rattle.riftcalico_engine.specs.Files.{Opens}
-use Rattle.riftcalico_engine.specs.Outputs.{IsFault, Ran}
-use Rattle.riftcalico_engine.specs.Runs.{IsRun, IsRunFrom}
+use Rattle.riftcalico_engine.specs.Outputs.{Ran}
+use Rattle.riftcalico_engine.specs.Runs.{IsRun, IsRunFrom, IsRunOf}
 use Rattle.riftcalico_words.specs.Tasks.{Task}
 
 -- the file that is named is this one, or none is
@@ -29,28 +26,23 @@ module _ {O A S W F : Type 0} (opens : Opens O A) (holds : A → Option (List �
       RunsFrom file t o o' s s' w w' f f' r
   source_run file t o o' s s' w w' f f' r is run = subst (λ (x : Option (List ℕ)). RunsFrom x t o o' s s' w w' f f' r) (sym is) run
 
-  -- the file couldn't be opened
-  pub unopened_run : (file : Option (List ℕ)) (path : List ℕ) (t : Task) (o o' : O) (s : S) (w : W) (f : F) (r : Ran) (fault : DeviceFault) → file ≡ Some path → opens o path (Err fault) o' →
-      IsFault r (λ x. (x.blamed ≡ blamed.Input) × (x.error.kind ≡ ReadFailed)) → RunsFrom file t o o' s s w w f f r
-  unopened_run file path t o o' s w f r fault is opened refused = subst (λ (x : Option (List ℕ)). RunsFrom x t o o' s s w w f f r) (sym is) (refl, inl (refused, (fault, opened), refl, refl))
-
-  -- it was
-  pub older_run : (file : Option (List ℕ)) (path : List ℕ) (t : Task) (o mid o' : O) (source source' : A) (s : S) (w w' : W) (f f' : F) (r : Ran) → file ≡ Some path → opens o path (Ok source) mid →
-      IsRun opens holds fails holds fails written writes told tells t mid o' source source' w w' f f' r → RunsFrom file t o o' s s w w' f f' r
-  older_run file path t o mid o' source source' s w w' f f' r is opened run =
-      subst (λ (x : Option (List ℕ)). RunsFrom x t o o' s s w w' f f' r) (sym is) (refl, inr (mid, source, source', opened, run))
+  -- from the file
+  pub older_run : (file : Option (List ℕ)) (path : List ℕ) (t : Task) (o o' : O) (s : S) (w w' : W) (f f' : F) (r : Ran) → file ≡ Some path → IsRunOf opens holds fails written writes told tells path t o o' w w' f f' r →
+      RunsFrom file t o o' s s w w' f f' r
+  older_run file path t o o' s w w' f f' r is run = subst (λ (x : Option (List ℕ)). RunsFrom x t o o' s s w w' f f' r) (sym is) (refl, run)
 
 module _ {O A : Type 0} (opens : Opens O A) where
   -- the files that are opened, where none is first
   pub source_asked : (file : Option (List ℕ)) (paths : List (List ℕ)) (o o' : O) → file ≡ None → AsksAmong opens paths o o' → AsksAmong opens (file_paths file ++ paths) o o'
   source_asked file paths o o' is asked = subst (λ (x : Option (List ℕ)). AsksAmong opens (file_paths x ++ paths) o o') (sym is) asked
 
-  -- where one is, and then some
-  pub older_asked : (file : Option (List ℕ)) (path : List ℕ) (paths : List (List ℕ)) (o mid o' : O) (answer : Result A DeviceFault) → file ≡ Some path → opens o path answer mid → AsksAmong opens paths mid o' →
-      AsksAmong opens (file_paths file ++ paths) o o'
-  older_asked file path paths o mid o' answer is opened asked =
-      first_and_others opens file paths o mid o' (subst (λ (x : Option (List ℕ)). AsksAmong opens (file_paths x) o mid) (sym is) (one_asked opens path o mid answer opened)) asked
+  -- where one is
+  pub older_asked : (file : Option (List ℕ)) (path : List ℕ) (paths : List (List ℕ)) (o o' : O) → file ≡ Some path → AsksAmong opens (path ∷ paths) o o' → AsksAmong opens (file_paths file ++ paths) o o'
+  older_asked file path paths o o' is asked = subst (λ (x : Option (List ℕ)). AsksAmong opens (file_paths x ++ paths) o o') (sym is) asked
 
-  -- where that one couldn't be opened, none
-  pub unopened_asked : (file : Option (List ℕ)) (path : List ℕ) (paths : List (List ℕ)) (o o' : O) (answer : Result A DeviceFault) → file ≡ Some path → opens o path answer o' → AsksAmong opens (file_paths file ++ paths) o o'
-  unopened_asked file path paths o o' answer is opened = older_asked file path paths o o' o' answer is opened (none_asked opens paths o')
+  -- that one, and then some; where it couldn't be opened, none
+  pub opened_asked : (path : List ℕ) (paths : List (List ℕ)) (o mid o' : O) (answer : Result A DeviceFault) → opens o path answer mid → AsksAmong opens paths mid o' → AsksAmong opens (path ∷ paths) o o'
+  opened_asked path paths o mid o' answer opened asked = then_asked opens path paths o mid o' (one_asked opens path o mid answer opened) asked
+
+  pub unopened_asked : (path : List ℕ) (paths : List (List ℕ)) (o o' : O) (answer : Result A DeviceFault) → opens o path answer o' → AsksAmong opens (path ∷ paths) o o'
+  unopened_asked path paths o o' answer opened = opened_asked path paths o o' o' answer opened (none_asked opens paths o')

@@ -1,13 +1,13 @@
 //! A task done over files and streams, stage by stage: the file of its calls, its words, the file of its set, the set, the
 //! struct of its root and the values of its calls, the message, the answer, what is written and told. Where a stage stops,
 //! none that comes after it has touched a file or stream.
-ghost use Rattle.std.specs.Prelude.{◌≡◌, IfErr, IfOk, Err};
+ghost use Rattle.std.specs.Prelude.{◌∷◌, ◌≡◌, IfErr, IfOk, Err};
 ghost use Rattle.std.specs.Option.{option_map};
 ghost use Rattle.capnp_show_engine.specs.Opened.{AsksAmong, file_paths};
 ghost use Rattle.riftcalico_engine.specs.Files.{IsFileRead, IsFileUnread};
 ghost use Rattle.riftcalico_engine.specs.Outputs.{IsFault};
 ghost use Rattle.riftcalico_core.specs.Faults.{old_file};
-ghost use Rattle.riftcalico_engine.specs.Runs.{IsRun, IsRunFrom, run_paths, task_paths};
+ghost use Rattle.riftcalico_engine.specs.Runs.{IsRun, IsRunFrom, IsRunOf, run_paths, task_paths};
 ghost use Rattle.riftcalico_words.specs.RequestSeen.{task_seen};
 
 use crate::answering::put_answer;
@@ -109,6 +109,28 @@ pub fn run<O: Opener, R: Source, W: Sink, F: Sink>(
     }
 }
 
+/// Does a task as `run`, on the file of an older message, which is opened first of all.
+fn run_older<O: Opener, W: Sink, F: Sink>(
+    alloc: Global,
+    opener: &mut O,
+    path: &str,
+    task: &Task<'_>,
+    sink: &mut W,
+    errors: &mut F,
+) -> Ran
+    ensures ran { IsRunOf O.opens O.File.left O.File.failures W.written W.failures F.written F.failures
+        path.now (task_seen task.now) opener.old opener.new sink.old sink.new errors.old errors.new result }
+    ensures opened { AsksAmong O.opens (path.now ∷ task_paths (task_seen task.now)) opener.old opener.new }
+{
+    match opener.open(path) {
+        Ok(mut old) => run(alloc, opener, task, &mut old, sink, errors),
+        Err(_) => {
+            let error = Error::from(ErrorKind::ReadFailed);
+            Err(refuse(alloc, None, error, Blamed::Input))
+        }
+    }
+}
+
 /// Does a task as `run`, and where it names the file of an older message, on that in place of the source, which isn't touched
 /// then. That file is opened first of all.
 pub fn run_from<O: Opener, R: Source, W: Sink, F: Sink>(
@@ -124,12 +146,8 @@ pub fn run_from<O: Opener, R: Source, W: Sink, F: Sink>(
         errors.old errors.new result }
     ensures opened { AsksAmong O.opens (run_paths (task_seen task.now)) opener.old opener.new }
 {
-    let Some(path) = get_old_file(task) else {
-        return run(alloc, opener, task, source, sink, errors);
-    };
-    let Ok(mut old) = opener.open(path) else {
-        let error = Error::from(ErrorKind::ReadFailed);
-        return Err(refuse(alloc, None, error, Blamed::Input));
-    };
-    run(alloc, opener, task, &mut old, sink, errors)
+    match get_old_file(task) {
+        Some(path) => run_older(alloc, opener, path, task, sink, errors),
+        None => run(alloc, opener, task, source, sink, errors),
+    }
 }
