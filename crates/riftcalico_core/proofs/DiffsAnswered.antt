@@ -1,6 +1,7 @@
 -- What two messages come to, by their roots and the changes between them.
 use Rattle.std.proofs.Common.{ℕ, List, Ok, ap, inl, inr, subst, sym, ◌≡◌, ◌≢◌}
 use Rattle.capnp_device.specs.declared.error.Error.{Error}
+use Rattle.capnp_device.specs.ErrorNumber.{error_number}
 use Rattle.capnp_device.specs.declared.error.ErrorKind.{ErrorKind}
 use Rattle.capnp_diffs.specs.Changes.{IsRecordTold, record_changes}
 use Rattle.capnp_diffs.specs.Found.{AreReady, changes_seen}
@@ -35,14 +36,16 @@ module _ (j : DiffJob) (old new : List ℕ) (has : message_in j.packed j.newer.n
 
   -- the structs that two handles stand on are those of the roots, and what refuses them is so of the refusal that tells it
   pub not_found : (source target : StructHandle) → schema_of target ≡ j.schema → IsRootStruct old (struct_of (reader_of source)) (struct_levels (reader_of source)) →
-      IsRootStruct new (struct_of (reader_of target)) (struct_levels (reader_of target)) → (k : ErrorKind) → IsRefusal (pair_of source target) k → (f : Fault) → f.error.kind ≡ k → IsPlaceTold j.schema old new f → IsNotDiffed j old f
-  not_found source target same is_old is_new k cause f is_kind told = inr (
+      IsRootStruct new (struct_of (reader_of target)) (struct_levels (reader_of target)) → (k : ErrorKind) → IsRefusal (pair_of source target) k → (f : Fault) → error_number f.error.kind ≡ error_number k → IsPlaceTold j.schema old new k f → IsNotDiffed j old f
+  not_found source target same is_old is_new k cause f number told = inr (
     new,
     has,
     inr (inr (inl (record {
       pair = pair_of source target;
       roots = record { set_is = ap set_of same; brand_is = ap number_of same; is_old = is_old; is_new = is_new };
-      cause = subst (λ (x : ErrorKind). IsRefusal (pair_of source target) x) (sym is_kind) cause;
+      kind = k;
+      cause = cause;
+      number = number;
       told = told;
     }))),
   )

@@ -27,6 +27,7 @@ module _ (w : WholePlan) (set : Schemas) where
   of_jobs so f (job.Structs schemas limit) is = absurd is
   of_jobs so f (job.Fields s limit) is = absurd is
   of_jobs so f (job.Convert strict limit) is = absurd is
+  of_jobs so f (job.Diff j) is = absurd is
   of_jobs so f (job.Help v) is = absurd is
   of_jobs so f job.Version is = absurd is
 

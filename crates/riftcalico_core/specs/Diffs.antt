@@ -1,5 +1,6 @@
 -- What is answered where the calls are told that make one message into another: a line of each change, in their order; or why there are none.
 use Rattle.std.specs.Prelude.{ℕ, ◌<◌, ◌≤◌, ◌+◌, ◌-◌, ◌≡◌, ◌⊎◌, List, [], length, true, Ok, Err, string_bytes}
+use Rattle.capnp_device.specs.ErrorNumber.{error_number}
 use Rattle.capnp_device.specs.declared.error.ErrorKind.{ErrorKind}
 use Rattle.capnp_device.specs.declared.error.ErrorKind.TheVariants as kind
 use Rattle.capnp_diffs.specs.Changes.{IsRecordTold, record_changes}
@@ -162,18 +163,20 @@ pub record IsNotUnpacked (j : DiffJob) (f : Fault) : Type 0 where
   pub cause : message_in j.packed j.newer.now ≡ Err f.error.kind
   pub note : string_bytes f.note ≡ []
 
--- A part of one message can't be read, and its place is told, of the older one first; or no place is, of the newer one.
-abbrev pub IsPlaceTold : StructSchema → (bytes newer : List ℕ) → Fault → Type 0
-IsPlaceTold s bytes newer f =
+-- A part of one message can't be read, and its place is told, of the older one first; or no place is, and the newer one is blamed for this kind.
+abbrev pub IsPlaceTold : StructSchema → (bytes newer : List ℕ) → ErrorKind → Fault → Type 0
+IsPlaceTold s bytes newer kind f =
     ((f.blamed ≡ blamed.Input) × IsNotShown s [] bytes f)
-    ⊎ (((f.blamed ≡ blamed.Calls) × IsNotShown s [] newer f) ⊎ ((f.blamed ≡ blamed.Calls) × (string_bytes f.note ≡ [])))
+    ⊎ (((f.blamed ≡ blamed.Calls) × IsNotShown s [] newer f) ⊎ ((f.blamed ≡ blamed.Calls) × (f.error.kind ≡ kind) × (string_bytes f.note ≡ [])))
 
--- no changes are found: what is compared of the two roots refuses it
+-- no changes are found: what is compared of the two roots refuses it, with the number that is told
 pub record IsNotFound (s : StructSchema) (bytes newer : List ℕ) (f : Fault) : Type 0 where
   pub pair : Pair
   pub roots : AreRoots s bytes newer pair
-  pub cause : IsRefusal pair f.error.kind
-  pub told : IsPlaceTold s bytes newer f
+  pub kind : ErrorKind
+  pub cause : IsRefusal pair kind
+  pub number : error_number f.error.kind ≡ error_number kind
+  pub told : IsPlaceTold s bytes newer kind f
 
 -- a change has no line
 pub record IsOneLineless (j : DiffJob) (bytes : List ℕ) (f : Fault) : Type 0 where

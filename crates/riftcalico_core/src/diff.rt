@@ -1,6 +1,7 @@
 //! The calls that make one message into another, as lines that `patch` reads.
 ghost use Rattle.std.specs.Prelude.{ℕ, [], true, ◌+◌, ◌≡◌, ◌≢◌, ◌≤◌, ◌⊎◌, IfErr, IfOk, IfSome, Ok, length, string_bytes};
 ghost use Rattle.capnp_call.specs.Seen.{path_seen};
+ghost use Rattle.capnp_device.specs.ErrorNumber.{error_number};
 ghost use Rattle.capnp_device.specs.declared.error.ErrorKind.TheVariants.{OutOfMemory};
 ghost use Rattle.capnp_diffs.specs.declared.change.Change.{Change as FoundChange};
 ghost use Rattle.capnp_dynamic_readers.specs.Handles.{reader_of, schema_of};
@@ -76,7 +77,7 @@ fn blame_newer(fault: Fault) -> Fault
     }
 }
 
-/// The refusal of a message's first part that can't be read, if it is of this kind.
+/// The refusal of a message's first part that can't be read, if it has the number of this kind.
 fn find_kind(
     alloc: Global,
     schema: StructSchema<'_>,
@@ -85,13 +86,13 @@ fn find_kind(
 ) -> Result<Option<Fault>>
     requires { IsStruct schema }
     ensures found { IfOk result (λ found. IfSome found (IsNotShown schema.entry [] message.now)) }
-    ensures kind { IfOk result (λ found. IfSome found (λ f. f.error.kind ≡ kind)) }
+    ensures number { IfOk result (λ found. IfSome found (λ f. error_number f.error.kind ≡ error_number kind)) }
     ensures blamed { IfOk result (λ found. IfSome found (λ f. f.blamed ≡ Input)) }
     ensures memory { IfErr result (λ e. e.kind ≡ OutOfMemory) }
 {
     match find_fault(alloc, schema, &[], message)? {
         Some(fault) => {
-            if fault.error.kind == kind {
+            if fault.error.kind.number() == kind.number() {
                 Ok(Some(fault))
             } else {
                 Ok(None)
@@ -111,8 +112,8 @@ fn explain_changes(
     error: Error,
 ) -> Fault
     requires { IsStruct schema }
-    ensures told { result.error.kind ≢ OutOfMemory → IsPlaceTold schema.entry old.now new.now result }
-    ensures kind { result.error.kind ≢ OutOfMemory → result.error.kind ≡ error.kind }
+    ensures told { result.error.kind ≢ OutOfMemory → IsPlaceTold schema.entry old.now new.now error.kind result }
+    ensures number { result.error.kind ≢ OutOfMemory → error_number result.error.kind ≡ error_number error.kind }
     ensures blamed { (result.blamed ≡ Input) ⊎ (result.blamed ≡ Calls) }
 {
     if error.kind == ErrorKind::OutOfMemory {
