@@ -14,11 +14,11 @@ pub returns-in-Some-clause-opened : goal.returns-in-Some-clause-opened
 returns-in-Some-clause-opened g c =
     older_asked g.O.Opener.opens (old_file (task_seen c.args.task.now)) c.in-Some.path.now (task_paths (task_seen c.args.task.now)) c.args.opener.now c.run_older.new.opener (old_named c.get_old_file.result (old_file (task_seen c.args.task.now)) c.in-Some.path c.get_old_file.ensures c.in-Some.is) c.run_older.ensures.opened
 
-pub returns-clause-ran : goal.returns-clause-ran
-returns-clause-ran g c =
+pub returns-in-None-clause-ran : goal.returns-in-None-clause-ran
+returns-in-None-clause-ran g c =
     source_run g.O.Opener.opens g.O.File.Source.left g.O.File.Source.failures g.R.Source.left g.R.Source.failures g.W.Sink.written g.W.Sink.failures g.F.Sink.written g.F.Sink.failures (old_file (task_seen c.args.task.now)) (task_seen c.args.task.now) c.args.opener.now c.run.new.opener c.args.source.now c.run.new.source c.args.sink.now c.run.new.sink c.args.errors.now c.run.new.errors c.run.result
     (none_named c.get_old_file.result (old_file (task_seen c.args.task.now)) c.get_old_file.ensures c.in-None.is) c.run.ensures.ran
 
-pub returns-clause-opened : goal.returns-clause-opened
-returns-clause-opened g c =
+pub returns-in-None-clause-opened : goal.returns-in-None-clause-opened
+returns-in-None-clause-opened g c =
     source_asked g.O.Opener.opens (old_file (task_seen c.args.task.now)) (task_paths (task_seen c.args.task.now)) c.args.opener.now c.run.new.opener (none_named c.get_old_file.result (old_file (task_seen c.args.task.now)) c.get_old_file.ensures c.in-None.is) c.run.ensures.opened

@@ -8,6 +8,6 @@ pub returns-in-Ok-clause-opened : goal.returns-in-Ok-clause-opened
 returns-in-Ok-clause-opened g c =
     opened_asked g.O.Opener.opens c.args.path.now (task_paths (task_seen c.args.task.now)) c.args.opener.now c.open.new.self c.run.new.opener c.open.result c.open.ensures c.run.ensures.opened
 
-pub returns-clause-opened : goal.returns-clause-opened
-returns-clause-opened g c =
+pub returns-in-Err-clause-opened : goal.returns-in-Err-clause-opened
+returns-in-Err-clause-opened g c =
     unopened_asked g.O.Opener.opens c.args.path.now (task_paths (task_seen c.args.task.now)) c.args.opener.now c.open.new.self c.open.result c.open.ensures
