@@ -341,7 +341,8 @@ usage: riftcalico show [--set FILE] [--packed] [--limit BYTES] [--each [--keep-g
        riftcalico new [--set FILE] [--calls FILE] [--keep-going] [--packed] [--limit BYTES] NAME CALL..
        riftcalico structs [--set FILE] [--limit BYTES] [NAME]
        riftcalico schemas [--strict] [--limit BYTES]
-       riftcalico compatible [--quiet] [--breaking-only] [--both] [--limit BYTES] OLD NEW [NAME]'
+       riftcalico compatible [--quiet] [--breaking-only] [--both] [--limit BYTES] OLD NEW [NAME]
+       riftcalico diff [--set FILE] [--packed] [--limit BYTES] NAME OLD NEW'
 ./riftcalico get Flat a < /dev/null > "$scratch/out" 2> "$scratch/err"
 expect 'a path of no bytes' $? 1 '' 'refused: 2 Truncated (standard input)'
 ./riftcalico get Shapes circle.r < examples/shapes_tag.bin > "$scratch/out" 2> "$scratch/err"

@@ -2,6 +2,8 @@
 #![tactic(auto)]
 
 #[cfg(test)]
+mod diff_tests;
+#[cfg(test)]
 mod edit_tests;
 #[cfg(test)]
 mod json_rows;

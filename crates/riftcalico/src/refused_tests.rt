@@ -30,7 +30,7 @@ const HOSTILE: &str = "\
 ";
 
 /// How verbs are called.
-static USAGES: [(&str, &str); 10] = [
+static USAGES: [(&str, &str); 11] = [
     (
         "show",
         "[--set FILE] [--packed] [--limit BYTES] [--each [--keep-going]] NAME [--indent]",
@@ -64,6 +64,10 @@ static USAGES: [(&str, &str); 10] = [
     (
         "compatible",
         "[--quiet] [--breaking-only] [--both] [--limit BYTES] OLD NEW [NAME]",
+    ),
+    (
+        "diff",
+        "[--set FILE] [--packed] [--limit BYTES] NAME OLD NEW",
     ),
 ];
 
@@ -221,6 +225,10 @@ get|--both|Flat|a -> usage
 compatible|--both|set -> usage
 compatible|set|calls|Flat|a -> usage
 compatible|--set|set|calls|Flat -> usage
+diff|Flat|set -> usage
+diff|Flat|set|calls|a -> usage
+diff|--each|Flat|set|calls -> usage
+diff|--calls|calls|Flat|set|calls -> usage
 schemas|--set|set -> usage
 # options that there aren't
 get|Flat|a|--indented -> unknown option: --indented
@@ -329,6 +337,10 @@ new|--set|set|Flat -> refused: 2 Truncated (set); a set is what riftcalico schem
 patch|--calls|nowhere|Flat -> refused: 12 ReadFailed (nowhere)
 compatible|set|nowhere|Flat -> refused: 12 ReadFailed (nowhere)
 compatible|nowhere|calls|Flat -> refused: 12 ReadFailed (nowhere)
+diff|Flat|nowhere|calls -> refused: 12 ReadFailed (nowhere)
+diff|Flat|set|nowhere -> refused: 12 ReadFailed (nowhere)
+diff|--set|nowhere|Flat|set|calls -> refused: 12 ReadFailed (nowhere)
+diff|Flat|set|calls -> refused: 2 Truncated (set)
 structs|--set|nowhere -> refused: 12 ReadFailed (nowhere)
 structs|--set|set|Flat -> refused: 2 Truncated (set); a set is what riftcalico schemas writes
 # files that can't be replaced: none is there, or no file can be made beside it

@@ -678,6 +678,7 @@ pub(crate) const TOLD: &str = "\
 \"       riftcalico structs [--set FILE] [--limit BYTES] [NAME]
 \"       riftcalico schemas [--strict] [--limit BYTES]
 \"       riftcalico compatible [--quiet] [--breaking-only] [--both] [--limit BYTES] OLD NEW [NAME]
+\"       riftcalico diff [--set FILE] [--packed] [--limit BYTES] NAME OLD NEW
 \"
 \"More of a verb is told by 'riftcalico VERB --help', the version by 'riftcalico --version'.
 

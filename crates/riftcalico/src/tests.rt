@@ -29,7 +29,8 @@ usage: riftcalico show [--set FILE] [--packed] [--limit BYTES] [--each [--keep-g
        riftcalico new [--set FILE] [--calls FILE] [--keep-going] [--packed] [--limit BYTES] NAME CALL..
        riftcalico structs [--set FILE] [--limit BYTES] [NAME]
        riftcalico schemas [--strict] [--limit BYTES]
-       riftcalico compatible [--quiet] [--breaking-only] [--both] [--limit BYTES] OLD NEW [NAME]";
+       riftcalico compatible [--quiet] [--breaking-only] [--both] [--limit BYTES] OLD NEW [NAME]
+       riftcalico diff [--set FILE] [--packed] [--limit BYTES] NAME OLD NEW";
 
 /// The only paths that have a file: of a set and of calls.
 const SET: &str = "set";

@@ -300,7 +300,7 @@ f87deb03df9dfeb2 0100000000000000 0000000000000000 0900000012000000 090000000700
 0500000007000000 050000000f000000 0000000001000000 0400000001000000 0c00000000000000 0000000001000500";
 
 /// Words under that set, whether the message is read, the status, and what is told and written.
-static MEETING: [(&str, &str); 7] = [
+static MEETING: [(&str, &str); 8] = [
     (
         "json|--set|set|P",
         "true 1 refused: 69 JsonNamesMeet (set) in P: b, a\n|",
@@ -319,6 +319,10 @@ static MEETING: [(&str, &str); 7] = [
     ),
     (
         "from-json|--set|set|--strict|--each|--keep-going|P",
+        "true 1 refused: 69 JsonNamesMeet (set) in P: b, a\n|",
+    ),
+    (
+        "diff|--set|set|P|set|calls",
         "true 1 refused: 69 JsonNamesMeet (set) in P: b, a\n|",
     ),
     ("show|--set|set|P", "false 0 |(a = false, b = false)\n"),

@@ -1,15 +1,21 @@
 pub mod Blamed
 pub mod CallsGiven
 pub mod CallsRead
+pub mod ChangesLined
+pub mod ChangesTold
 pub mod Counted
+pub mod DiffsAnswered
 pub mod Each
 pub mod EachRead
 pub mod FirstOf
 pub mod HeadedLines
 pub mod JsonTold
 pub mod LinesGot
+pub mod LinesRead
 pub mod ListingsAsked
+pub mod NamedPaths
 pub mod NearNames
+pub mod NewerBlamed
 pub mod NotShown
 pub mod Noted
 pub mod NumberedLines
@@ -25,3 +31,4 @@ pub mod Unread
 pub mod ValueTexts
 pub mod WholeAnswers
 pub mod WholeTexts
+pub mod WordlessLines

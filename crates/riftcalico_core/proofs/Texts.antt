@@ -28,3 +28,14 @@ pub no_line_more : (lines : List (List ℕ)) (line : List ℕ) (words : List (Li
 no_line_more lines line words remark e =
     e ∙ sym (filter-append (λ l. not (is_remark l)) lines (line ∷ []) ∙ (ap (λ (q : Bool). filter (λ l. not (is_remark l)) lines ++ cond (not q) (line ∷ []) []) remark
     ∙ append-nil (filter (λ l. not (is_remark l)) lines)))
+
+-- whether bytes are a text
+pub is_text : (bytes : List ℕ) → IsUtf8 bytes → true ≡ is_utf8 bytes
+is_text bytes utf8 = sym (is_utf8-from_IsUtf8 bytes utf8)
+
+pub is_no_text : (bytes : List ℕ) → (IsUtf8 bytes → ⊥) → false ≡ is_utf8 bytes
+is_no_text bytes broken = go (is_utf8 bytes) refl
+  where
+    go : (q : Bool) → is_utf8 bytes ≡ q → false ≡ is_utf8 bytes
+    go true h = absurd (broken (IsUtf8-from_is_utf8 bytes h))
+    go false h = sym h

@@ -1,7 +1,7 @@
 -- What is answered where all structs of two versions are compared is the answer of the plan's job.
 use Rattle.std.proofs.Common.{◌≡◌, [], Option, inl, inr, refl, string_bytes}
 use Rattle.capnp_schema.specs.Schema.{Schemas}
-use Rattle.riftcalico_core.specs.Answers.{IsAnswer, IsNoAnswer, answer_blamed}
+use Rattle.riftcalico_core.specs.Answers.{IsAnswer, IsBlamed, IsNoAnswer}
 use Rattle.riftcalico_core.specs.Comparisons.{IsCompareAnswer, IsNotTold, IsReported, compare_blamed}
 use Rattle.riftcalico_core.specs.Jobs.{IsCompareJob}
 use Rattle.riftcalico_core.specs.Steps.Whole.{IsUncomparedWhole, IsWholeAnswer, IsWholeReport}
@@ -27,6 +27,7 @@ module _ (w : WholePlan) (set : Schemas) where
   of_jobs so f (job.Structs schemas limit) is = absurd is
   of_jobs so f (job.Fields s limit) is = absurd is
   of_jobs so f (job.Convert strict limit) is = absurd is
+  of_jobs so f (job.Diff j) is = absurd is
   of_jobs so f (job.Help v) is = absurd is
   of_jobs so f job.Version is = absurd is
 
@@ -56,5 +57,5 @@ module _ (w : WholePlan) (set : Schemas) where
   pub whole_refused : (f : Fault) → IsUncomparedWhole set w f.error → string_bytes f.note ≡ [] → OfItsJobs w set (λ j. IsNoAnswer j [] f)
   whole_refused f why note = of_jobs (λ j. IsNoAnswer j [] f) (λ j of. inr ([], refl, record { cause = cause f why j of; note = note }))
 
-  pub whole_blamed : (f : Fault) → f.blamed ≡ compare_blamed f.error.kind → OfItsJobs w set (λ j. f.blamed ≡ answer_blamed j f.error.kind)
-  whole_blamed f is = of_jobs (λ j. f.blamed ≡ answer_blamed j f.error.kind) (λ j of. is)
+  pub whole_blamed : (f : Fault) → f.blamed ≡ compare_blamed f.error.kind → OfItsJobs w set (λ j. IsBlamed j f.error.kind f.blamed)
+  whole_blamed f is = of_jobs (λ j. IsBlamed j f.error.kind f.blamed) (λ j of. is)

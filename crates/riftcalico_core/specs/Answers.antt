@@ -9,7 +9,6 @@ use Rattle.capnp_call.specs.Refusals.{any_refused}
 use Rattle.capnp_call.specs.Seen.{path_seen}
 use Rattle.capnp_call.specs.declared.calls.Reply.{Reply}
 use Rattle.capnp_dynamic_readers.specs.Pieces.{IsAppended}
-use Rattle.capnp_packed.specs.Received.{received_message}
 use Rattle.capnp_edit_calls.specs.ActsLeft.{IsActsLeftOfBytes, IsActsLeftOfNew}
 use Rattle.capnp_edit_calls.specs.ActsSeen.{ActSeen, act_seen}
 use Rattle.capnp_edit_calls.specs.declared.acts.Act.{Act}
@@ -31,8 +30,10 @@ use Rattle.riftcalico_core.specs.AllFaults.{any_told, refusals_lines}
 use Rattle.riftcalico_core.specs.CallsSeen.{read_act_seen}
 use Rattle.riftcalico_core.specs.Comparisons.{IsCompareAnswer, IsUncompared, compare_blamed}
 use Rattle.riftcalico_core.specs.Depths.{IsDepthTold}
+use Rattle.riftcalico_core.specs.Diffs.{IsDiffAnswer, IsNotDiffed}
 use Rattle.riftcalico_core.specs.FromJson.{IsFromJsonAnswer}
 use Rattle.riftcalico_core.specs.Gets.{IsGetAnswer, IsNotGot}
+use Rattle.riftcalico_core.specs.Inputs.{message_in}
 use Rattle.riftcalico_core.specs.Jobs.{is_packed, set_room, wants_input}
 use Rattle.riftcalico_core.specs.Json.{IsJsonAnswer, IsNoJson}
 use Rattle.riftcalico_core.specs.Outputs.{IsMessageOutput}
@@ -64,6 +65,7 @@ IsSoundJob (job.Structs schemas limit) = ⊤
 IsSoundJob (job.Fields s limit) = IsStruct s
 IsSoundJob (job.Convert strict limit) = ⊤
 IsSoundJob (job.Compatible j) = ⊤
+IsSoundJob (job.Diff j) = IsStruct j.schema
 IsSoundJob (job.Help v) = ⊤
 IsSoundJob job.Version = ⊤
 
@@ -221,6 +223,7 @@ IsMessageAnswer (job.Structs schemas limit) bytes a = IsStructsAnswer (lists_see
 IsMessageAnswer (job.Fields s limit) bytes a = IsFieldsAnswer s limit a
 IsMessageAnswer (job.Convert strict limit) bytes a = IsConvertAnswer strict limit bytes a
 IsMessageAnswer (job.Compatible j) bytes a = IsCompareAnswer j a
+IsMessageAnswer (job.Diff j) bytes a = IsDiffAnswer j bytes a
 IsMessageAnswer (job.Help v) bytes a = IsTextAnswer a (λ text. text ≡ help_text v)
 IsMessageAnswer job.Version bytes a = IsTextAnswer a (λ text. text ≡ version_line)
 
@@ -236,13 +239,9 @@ IsNoMessageAnswer (job.Structs schemas limit) bytes f = IsLongText limit (IsStru
 IsNoMessageAnswer (job.Fields s limit) bytes f = IsFieldsPast limit s f.error.kind × (string_bytes f.note ≡ [])
 IsNoMessageAnswer (job.Convert strict limit) bytes f = IsNotConverted strict limit bytes f.error × (string_bytes f.note ≡ [])
 IsNoMessageAnswer (job.Compatible j) bytes f = IsUncompared j f
+IsNoMessageAnswer (job.Diff j) bytes f = IsNotDiffed j bytes f
 IsNoMessageAnswer (job.Help v) bytes f = ⊥
 IsNoMessageAnswer job.Version bytes f = ⊥
-
--- the message that bytes have, which may be packed; or why they have none
-abbrev pub message_in : (packed : Bool) → List ℕ → Result (List ℕ) ErrorKind
-message_in false bytes = Ok bytes
-message_in true bytes = received_message bytes
 
 pub record IsAnswer (j : Job) (bytes : List ℕ) (a : Answer) : Type 0 where
   pub message : List ℕ
@@ -255,7 +254,8 @@ IsNoAnswer j bytes f =
     ((message_in (is_packed j) bytes ≡ Err f.error.kind) × (string_bytes f.note ≡ []))
     ⊎ ((message : List ℕ) × (message_in (is_packed j) bytes ≡ Ok message) × IsNoMessageAnswer j message f)
 
--- what is to be looked at where there is none: what is read, or else what is written
-abbrev pub answer_blamed : Job → ErrorKind → Blamed
-answer_blamed (job.Compatible j) kind = compare_blamed kind
-answer_blamed j kind = cond (wants_input j) blamed.Input blamed.«Output»
+-- what is to be looked at where there is none: what is read, of two messages either one, or else what is written
+abbrev pub IsBlamed : Job → ErrorKind → Blamed → Type 0
+IsBlamed (job.Compatible j) kind b = b ≡ compare_blamed kind
+IsBlamed (job.Diff j) kind b = (b ≡ blamed.Input) ⊎ (b ≡ blamed.Calls)
+IsBlamed j kind b = b ≡ cond (wants_input j) blamed.Input blamed.«Output»

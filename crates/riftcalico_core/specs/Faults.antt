@@ -9,7 +9,7 @@ use Rattle.riftcalico_core.specs.Plans.{calls_file}
 use Rattle.riftcalico_core.specs.declared.fault.Blamed.{Blamed}
 use Rattle.riftcalico_core.specs.declared.fault.Blamed.TheVariants as blamed
 use Rattle.riftcalico_core.specs.declared.fault.Fault.{Fault}
-use Rattle.riftcalico_words.specs.Tasks.{Task, check_task, compatible_task, fields_task, from_json_task, get_task, json_task, new_task, patch_task, structs_task}
+use Rattle.riftcalico_words.specs.Tasks.{Task, check_task, compatible_task, diff_task, fields_task, from_json_task, get_task, json_task, new_task, patch_task, structs_task}
 
 -- a refusal of which no more is told
 pub record IsPlainFault (f : Fault) (e : Error) (b : Blamed) : Type 0 where
@@ -33,6 +33,7 @@ task_set_file (new_task t) = t.root.file
 task_set_file (structs_task file limit) = file
 task_set_file (fields_task r limit) = r.file
 task_set_file (compatible_task t) = Some t.older
+task_set_file (diff_task t) = t.root.file
 task_set_file t = None
 
 -- a file by its path, or what stands for none
@@ -55,6 +56,7 @@ task_name (patch_task t) = t.root.name
 task_name (new_task t) = t.root.name
 task_name (fields_task r limit) = r.name
 task_name (compatible_task t) = name_word t.name
+task_name (diff_task t) = t.root.name
 task_name t = []
 
 -- the file whose messages are replaced, if there is one
@@ -62,12 +64,22 @@ abbrev pub place_file : Task → Option (List ℕ)
 place_file (patch_task t) = t.in_place
 place_file t = None
 
+-- the file of an older message, which is read and stays as it is
+abbrev pub old_file : Task → Option (List ℕ)
+old_file (diff_task t) = Some t.old
+old_file t = None
+
+-- the file that is read in place of standard input, if there is one
+abbrev pub input_file : Task → Option (List ℕ)
+input_file (diff_task t) = Some t.old
+input_file t = place_file t
+
 -- what is to be looked at
 abbrev pub blamed_word : Task → Blamed → List ℕ
 blamed_word t blamed.Calls = file_word (calls_file t) []
 blamed_word t blamed.Set = file_word (task_set_file t) (codes "the built-in set")
 blamed_word t blamed.Name = task_name t
-blamed_word t blamed.Input = file_word (place_file t) (codes "standard input")
+blamed_word t blamed.Input = file_word (input_file t) (codes "standard input")
 blamed_word t blamed.Output = file_word (place_file t) (codes "standard output")
 
 -- what a file holds is refused, and not for memory or because it can't be read

@@ -17,7 +17,7 @@ use Rattle.capnp_sets.specs.Message.{HasLargeMessage, IsMessageRefusal, IsPastLi
 use Rattle.capnp_sets.specs.Unfolded.{values_size}
 use Rattle.riftcalico_core.specs.Calls.{IsCallRead, given_type}
 use Rattle.riftcalico_core.specs.CallsSeen.{read_act_seen}
-use Rattle.riftcalico_core.specs.Plans.{CallsPlan, CheckPlan, ComparePlan, FromJsonPlan, GetPlan, JsonPlan, Plan, check_plan, compatible_plan, convert_plan, fields_plan, from_json_plan, get_plan, help_plan, json_plan, new_plan, patch_plan, structs_plan, version_plan}
+use Rattle.riftcalico_core.specs.Plans.{CallsPlan, CheckPlan, ComparePlan, DiffPlan, FromJsonPlan, GetPlan, JsonPlan, Plan, check_plan, compatible_plan, convert_plan, diff_plan, fields_plan, from_json_plan, get_plan, help_plan, json_plan, new_plan, patch_plan, structs_plan, version_plan}
 use Rattle.riftcalico_core.specs.Gets.{queries_of}
 use Rattle.riftcalico_core.specs.Json.{json_queries}
 use Rattle.riftcalico_core.specs.Reads.{AreRead, value_line_at}
@@ -28,6 +28,7 @@ use Rattle.riftcalico_core.specs.declared.fault.Fault.{Fault}
 use Rattle.riftcalico_core.specs.declared.job.CallsJob.{CallsJob}
 use Rattle.riftcalico_core.specs.declared.job.CheckJob.{CheckJob}
 use Rattle.riftcalico_core.specs.declared.job.CompareJob.{CompareJob}
+use Rattle.riftcalico_core.specs.declared.job.DiffJob.{DiffJob}
 use Rattle.riftcalico_core.specs.declared.job.FromJsonJob.{FromJsonJob}
 use Rattle.riftcalico_core.specs.declared.job.GetJob.{GetJob}
 use Rattle.riftcalico_core.specs.declared.job.JsonJob.{JsonJob}
@@ -140,6 +141,12 @@ pub record IsCompareJob (p : ComparePlan) (set : Schemas) (j : CompareJob) : Typ
   pub both : j.both ≡ p.both
   pub limit : j.limit ≡ p.limit
 
+pub record IsDiffJob (p : DiffPlan) (set : Schemas) (j : DiffJob) : Type 0 where
+  pub schema : IsNamedStruct set p.root.name j.schema
+  pub newer : j.newer.now ≡ p.newer
+  pub packed : j.packed ≡ p.packed
+  pub limit : j.limit ≡ p.limit
+
 abbrev pub IsJob : Plan → Schemas → Job → Type 0
 IsJob (get_plan p) set (job.Get j) = IsGetJob p set j
 IsJob (json_plan p) set (job.Json j) = IsJsonJob p set j
@@ -151,6 +158,7 @@ IsJob (structs_plan file limit) set (job.Structs schemas most) = (lists_seen sch
 IsJob (fields_plan r limit) set (job.Fields s most) = IsNamedStruct set r.name s × (most ≡ limit)
 IsJob (convert_plan strict limit) set (job.Convert given most) = (given ≡ strict) × (most ≡ limit)
 IsJob (compatible_plan p) set (job.Compatible j) = IsCompareJob p set j
+IsJob (diff_plan p) set (job.Diff j) = IsDiffJob p set j
 IsJob (help_plan v) set (job.Help given) = given ≡ v
 IsJob version_plan set job.Version = ⊤
 IsJob p set j = ⊥
@@ -170,6 +178,7 @@ root_name (check_plan p) = Some p.root.name
 root_name (patch_plan p) = Some p.root.name
 root_name (new_plan p) = Some p.root.name
 root_name (fields_plan r limit) = Some r.name
+root_name (diff_plan p) = Some p.root.name
 root_name p = None
 
 -- no struct of the set has it
@@ -192,6 +201,7 @@ wants_input (job.Structs schemas limit) = false
 wants_input (job.Fields s limit) = false
 wants_input (job.Convert strict limit) = true
 wants_input (job.Compatible j) = false
+wants_input (job.Diff j) = true
 wants_input (job.Help v) = false
 wants_input job.Version = false
 
@@ -212,5 +222,6 @@ is_packed (job.Structs schemas limit) = false
 is_packed (job.Fields s limit) = false
 is_packed (job.Convert strict limit) = false
 is_packed (job.Compatible j) = false
+is_packed (job.Diff j) = j.packed
 is_packed (job.Help v) = false
 is_packed job.Version = false

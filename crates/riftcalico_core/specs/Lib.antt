@@ -2,12 +2,17 @@ pub mod AllFaults
 pub mod Answers
 pub mod Calls
 pub mod CallsSeen
+pub mod ChangeLines
 pub mod Comparisons
 pub mod Depths
+pub mod DiffLaws
+pub mod Diffs
 pub mod Expanded
 pub mod Faults
+pub mod FieldNames
 pub mod FromJson
 pub mod Gets
+pub mod Inputs
 pub mod Jobs
 pub mod Json
 pub mod JsonValues

@@ -6,12 +6,13 @@ use Rattle.capnp_json_names.specs.Met.{first_name, met_place, second_name}
 use Rattle.capnp_patch.specs.Lines.{told_word}
 use Rattle.capnp_schema.specs.Schema.{Schemas}
 use Rattle.riftcalico_core.specs.Faults.{file_word}
-use Rattle.riftcalico_core.specs.Plans.{Plan, from_json_plan, json_plan}
+use Rattle.riftcalico_core.specs.Plans.{Plan, diff_plan, from_json_plan, json_plan}
 
 -- the file of the set, where JSON is read or written
 abbrev pub json_file : Plan → Option (Option (List ℕ))
 json_file (json_plan p) = Some p.root.file
 json_file (from_json_plan p) = Some p.root.file
+json_file (diff_plan p) = Some p.root.file
 json_file p = None
 
 -- the set, the struct or enum, and the own names of both

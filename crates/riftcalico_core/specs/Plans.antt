@@ -10,7 +10,7 @@ use Rattle.capnp_words.specs.Paths.{path_at}
 use Rattle.capnp_words.specs.Reads.{Read}
 use Rattle.riftcalico_core.specs.Queries.{Query, query_at}
 use Rattle.riftcalico_core.specs.Reads.{Reads, each_word_read, line_at, unreadable_line}
-use Rattle.riftcalico_words.specs.Tasks.{CallsTask, CheckTask, FromJsonTask, GetTask, GivenCalls, JsonTask, Root, Task, check_task, compatible_task, convert_task, fields_task, from_json_task, get_task, help_task, in_lines, in_words, json_task, new_task, patch_task, structs_task, version_task}
+use Rattle.riftcalico_words.specs.Tasks.{CallsTask, CheckTask, FromJsonTask, GetTask, GivenCalls, JsonTask, Root, Task, check_task, compatible_task, convert_task, diff_task, fields_task, from_json_task, get_task, help_task, in_lines, in_words, json_task, new_task, patch_task, structs_task, version_task}
 use Rattle.riftcalico_words.specs.Usage.{verb_usage}
 use Rattle.riftcalico_words.specs.declared.request.Verb.{Verb}
 use Rattle.riftcalico_words.specs.declared.request.Verb.TheVariants as verb
@@ -66,6 +66,13 @@ pub record ComparePlan : Type 0 where
   pub both : Bool
   pub limit : ℕ
 
+-- the struct of a root, the bytes of a newer message of it, whether it and the older one come packed, and the most bytes that the lines may have together
+pub record DiffPlan : Type 0 where
+  pub root : Root
+  pub newer : List ℕ
+  pub packed : Bool
+  pub limit : ℕ
+
 pub data Plan : Type 0 where
   get_plan : GetPlan → Plan
   json_plan : JsonPlan → Plan
@@ -77,6 +84,7 @@ pub data Plan : Type 0 where
   fields_plan : Root → (limit : ℕ) → Plan
   convert_plan : (strict : Bool) → (limit : ℕ) → Plan
   compatible_plan : ComparePlan → Plan
+  diff_plan : DiffPlan → Plan
   help_plan : Option Verb → Plan
   version_plan : Plan
 
@@ -92,10 +100,11 @@ plan_limit (structs_plan file limit) = limit
 plan_limit (fields_plan r limit) = limit
 plan_limit (convert_plan strict limit) = limit
 plan_limit (compatible_plan p) = p.limit
+plan_limit (diff_plan p) = p.limit
 plan_limit (help_plan v) = 0
 plan_limit version_plan = 0
 
--- the file of a task's calls, or of the newer of two sets
+-- the file of a task's calls, or of the newer of two sets or messages
 abbrev pub given_file : GivenCalls → Option (List ℕ)
 given_file (in_words words) = None
 given_file (in_lines path) = Some path
@@ -104,6 +113,7 @@ abbrev pub calls_file : Task → Option (List ℕ)
 calls_file (patch_task t) = given_file t.calls
 calls_file (new_task t) = given_file t.calls
 calls_file (compatible_task t) = Some t.newer
+calls_file (diff_task t) = Some t.new
 calls_file t = None
 
 -- ---- what words say, or the line that tells what can't be read ----
@@ -198,5 +208,6 @@ task_plan (structs_task set limit) file = Ok (structs_plan set limit)
 task_plan (fields_task r limit) file = Ok (fields_plan r limit)
 task_plan (convert_task strict limit) file = Ok (convert_plan strict limit)
 task_plan (compatible_task t) file = Ok (compatible_plan (record { name = t.name; newer = file; quiet = t.quiet; breaking_only = t.breaking_only; both = t.both; limit = t.limit }))
+task_plan (diff_task t) file = Ok (diff_plan (record { root = t.root; newer = file; packed = t.packed; limit = t.limit }))
 task_plan (help_task v) file = Ok (help_plan v)
 task_plan version_task file = Ok version_plan

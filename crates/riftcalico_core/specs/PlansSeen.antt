@@ -3,11 +3,12 @@ use Rattle.std.specs.Prelude.{map, Result, Ok, Err, String, string_bytes}
 use Rattle.std.specs.Option.{option_map}
 use Rattle.capnp_words.specs.Seen.{call_text_seen, path_text_seen}
 use Rattle.riftcalico_core.specs.Plans as plans
-use Rattle.riftcalico_core.specs.Plans.{Told, check_plan, compatible_plan, convert_plan, fields_plan, from_json_plan, get_plan, help_plan, json_plan, new_plan, patch_plan, structs_plan, version_plan}
+use Rattle.riftcalico_core.specs.Plans.{Told, check_plan, compatible_plan, convert_plan, diff_plan, fields_plan, from_json_plan, get_plan, help_plan, json_plan, new_plan, patch_plan, structs_plan, version_plan}
 use Rattle.riftcalico_core.specs.QueriesSeen.{query_word_seen}
 use Rattle.riftcalico_core.specs.declared.plan.CallsPlan.{CallsPlan}
 use Rattle.riftcalico_core.specs.declared.plan.CheckPlan.{CheckPlan}
 use Rattle.riftcalico_core.specs.declared.plan.ComparePlan.{ComparePlan}
+use Rattle.riftcalico_core.specs.declared.plan.DiffPlan.{DiffPlan}
 use Rattle.riftcalico_core.specs.declared.plan.FromJsonPlan.{FromJsonPlan}
 use Rattle.riftcalico_core.specs.declared.plan.GetPlan.{GetPlan}
 use Rattle.riftcalico_core.specs.declared.plan.JsonPlan.{JsonPlan}
@@ -30,6 +31,9 @@ check_plan_seen p = record { root = root_named p.root; path = path_text_seen p.p
 abbrev pub compare_plan_seen : ComparePlan → plans.ComparePlan
 compare_plan_seen p = record { name = option_map (λ w. w.now) p.name; newer = p.newer.now; quiet = p.quiet; breaking_only = p.breaking_only; both = p.both; limit = p.limit }
 
+abbrev pub diff_plan_seen : DiffPlan → plans.DiffPlan
+diff_plan_seen p = record { root = root_named p.root; newer = p.newer.now; packed = p.packed; limit = p.limit }
+
 abbrev pub calls_plan_seen : CallsPlan → plans.CallsPlan
 calls_plan_seen p = record { root = root_named p.root; texts = map call_text_seen p.texts.items; words = map (λ w. w.now) p.words.items; keep_going = p.keep_going; packed = p.packed; limit = p.limit }
 
@@ -44,6 +48,7 @@ plan_seen (plan.Structs file limit) = structs_plan (option_map (λ f. f.now) fil
 plan_seen (plan.Fields r limit) = fields_plan (root_named r) limit
 plan_seen (plan.Convert strict limit) = convert_plan strict limit
 plan_seen (plan.Compatible p) = compatible_plan (compare_plan_seen p)
+plan_seen (plan.Diff p) = diff_plan (diff_plan_seen p)
 plan_seen (plan.Help v) = help_plan v
 plan_seen plan.Version = version_plan
 

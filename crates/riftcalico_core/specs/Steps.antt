@@ -5,3 +5,4 @@ pub mod Plans
 pub mod RepliesSeen
 pub mod Told
 pub mod Whole
+pub mod Wordless

@@ -11,7 +11,7 @@ ghost use Rattle.capnp_edit_calls.specs.ActsSeen.{act_seen};
 ghost use Rattle.capnp_patch.specs.Patches.{words_within};
 ghost use Rattle.capnp_patch.specs.Places.{HasFewParts, HasMoreParts};
 ghost use Rattle.capnp_schema.specs.StructHandles.{IsStruct, number_of, set_of};
-ghost use Rattle.riftcalico_core.specs.Answers.{HasTooMany, IsAllAnswer, IsAnswer, IsCheckAnswer, IsMessageAnswer, IsNewAnswer, IsNoAnswer, IsNoMessageAnswer, IsNotChecked, IsPatchAnswer, IsRunAnswer, IsShownAnswer, IsSoundJob, IsUnpatched, IsWritableOutput, answer_blamed};
+ghost use Rattle.riftcalico_core.specs.Answers.{HasTooMany, IsAllAnswer, IsAnswer, IsBlamed, IsCheckAnswer, IsMessageAnswer, IsNewAnswer, IsNoAnswer, IsNoMessageAnswer, IsNotChecked, IsPatchAnswer, IsRunAnswer, IsShownAnswer, IsSoundJob, IsUnpatched, IsWritableOutput};
 ghost use Rattle.riftcalico_core.specs.Outputs.{IsMessageOutput, IsPackedMessage};
 ghost use Rattle.riftcalico_core.specs.Quiet.{IsQuiet};
 ghost use Rattle.riftcalico_core.specs.Room.{IsBelowFormat, IsPastLimit};
@@ -22,6 +22,7 @@ use crate::all_faults::{any_refusal, get_refusal_lines};
 use crate::calls::{make_acts, make_values};
 use crate::compare::answer_compare;
 use crate::depth::put_depth_note;
+use crate::diff::answer_diff;
 use crate::fault::{Blamed, Fault, Faulty, blame, get_fault};
 use crate::from_json::answer_from_json;
 use crate::get::answer_get;
@@ -306,7 +307,7 @@ pub fn answer_message(alloc: Global, job: &Job<'_, '_, '_>, message: &[u8]) -> F
     ensures answer { IfOk result (IsMessageAnswer job.now message.now) }
     ensures writable { IfOk result (λ a. IsWritableOutput a.output) }
     ensures refused { IfErr result (λ f. f.error.kind ≢ OutOfMemory → IsNoMessageAnswer job.now message.now f) }
-    ensures blamed { IfErr result (λ f. f.blamed ≡ answer_blamed job.now f.error.kind) }
+    ensures blamed { IfErr result (λ f. IsBlamed job.now f.error.kind f.blamed) }
 {
     match job {
         Job::Get(job) => answer_get(alloc, job, message),
@@ -331,6 +332,7 @@ pub fn answer_message(alloc: Global, job: &Job<'_, '_, '_>, message: &[u8]) -> F
             Blamed::Input,
         ),
         Job::Compatible(job) => answer_compare(alloc, job),
+        Job::Diff(job) => answer_diff(alloc, job, message),
         Job::Help(verb) => Ok(answer_quietly(alloc, Output::Fixed(get_help(*verb)))),
         Job::Version => Ok(answer_quietly(alloc, Output::Fixed(get_version()))),
     }
@@ -343,7 +345,8 @@ pub fn answer_message(alloc: Global, job: &Job<'_, '_, '_>, message: &[u8]) -> F
 /// told, as what `from-json` refuses, but for a message without room within the limit (`TooLarge`); of
 /// `check` as `capnp_patch::place::find_place_within`, with the place, of `patch` as
 /// `capnp_edit_calls::engine::run_acts_bytes_within` and for room, as of `new`, of `schemas` as `capnp_set_engine::engine::convert_bytes`, of
-/// it, `structs` and `compatible` with `TooLarge` past the limit; and where the message is packed as `capnp_packed::received::read_message`.
+/// it, `structs` and `compatible` with `TooLarge` past the limit, of `diff` as either message, and as the first change without a
+/// line; and where the message is packed as `capnp_packed::received::read_message`.
 ///
 /// # Conditions
 ///
@@ -353,7 +356,7 @@ pub fn get_answer(alloc: Global, job: &Job<'_, '_, '_>, input: &[u8]) -> Faulty<
     ensures answer { IfOk result (IsAnswer job.now input.now) }
     ensures writable { IfOk result (λ a. IsWritableOutput a.output) }
     ensures refused { IfErr result (λ f. f.error.kind ≢ OutOfMemory → IsNoAnswer job.now input.now f) }
-    ensures blamed { IfErr result (λ f. f.blamed ≡ answer_blamed job.now f.error.kind) }
+    ensures blamed { IfErr result (λ f. IsBlamed job.now f.error.kind f.blamed) }
 {
     if !job.is_packed() {
         return answer_message(alloc, job, input);

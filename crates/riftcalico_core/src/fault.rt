@@ -2,7 +2,7 @@
 ghost use Rattle.std.specs.Prelude.{◌≡◌, ◌++◌, IfErr, IfOk, Ok, OnOk, string_bytes};
 ghost use Rattle.std.specs.Option.{option_map};
 ghost use Rattle.capnp_device.specs.declared.error.ErrorKind.TheVariants.{OutOfMemory};
-ghost use Rattle.riftcalico_core.specs.Faults.{IsFaultOf, IsPlainFault, blamed_word, fault_line, file_word, hint_of, is_of_bytes, message_word, name_hint, name_word, place_file, set_hint, task_name, task_set_file};
+ghost use Rattle.riftcalico_core.specs.Faults.{IsFaultOf, IsPlainFault, blamed_word, fault_line, file_word, hint_of, input_file, is_of_bytes, message_word, name_hint, name_word, old_file, place_file, set_hint, task_name, task_set_file};
 ghost use Rattle.riftcalico_words.specs.RequestSeen.{task_seen};
 
 use crate::plan::get_calls_file;
@@ -14,13 +14,13 @@ use std::alloc::Global;
 /// What is to be looked at.
 #[derive(Clone, Copy, Debug, PartialEq, Eq)]
 pub enum Blamed {
-    /// The file of the calls.
+    /// The file of the calls, or of the newer of two sets or messages.
     Calls,
     /// The file of the set, or the built-in set.
     Set,
     /// The name of the root's struct.
     Name,
-    /// Standard input, or the file whose messages are replaced.
+    /// Standard input, or the file whose messages are replaced, or that of the older of two messages.
     Input,
     /// Standard output, or that file.
     Output,
@@ -72,6 +72,7 @@ pub fn get_set_file<'a>(task: &Task<'a>) -> Option<&'a str>
         Task::Structs(file, _) => *file,
         Task::Fields(root, _) => root.file,
         Task::Compatible(request) => Some(request.older),
+        Task::Diff(request) => request.root.file,
         Task::Convert(_, _) | Task::Help(_) | Task::Version => None,
     }
 }
@@ -83,6 +84,26 @@ pub fn get_place_file<'a>(task: &Task<'a>) -> Option<&'a str>
     match task {
         Task::Patch(request) => request.in_place,
         _ => None,
+    }
+}
+
+/// The file that a task reads a message from and leaves as it is, if there is one.
+pub fn get_old_file<'a>(task: &Task<'a>) -> Option<&'a str>
+    ensures { option_map (λ f. f.now) result ≡ old_file (task_seen task.now) }
+{
+    match task {
+        Task::Diff(request) => Some(request.old),
+        _ => None,
+    }
+}
+
+/// The file that is read in place of standard input, if there is one.
+fn get_input_file<'a>(task: &Task<'a>) -> Option<&'a str>
+    ensures { option_map (λ f. f.now) result ≡ input_file (task_seen task.now) }
+{
+    match task {
+        Task::Diff(_) => get_old_file(task),
+        _ => get_place_file(task),
     }
 }
 
@@ -117,6 +138,7 @@ fn get_name<'a>(task: &Task<'a>) -> &'a str
         Task::Check(request) => request.root.name,
         Task::Patch(request) | Task::New(request) => request.root.name,
         Task::Fields(root, _) => root.name,
+        Task::Diff(request) => request.root.name,
         Task::Compatible(request) => get_name_word(request.name),
         Task::Structs(_, _) | Task::Convert(_, _) | Task::Help(_) | Task::Version => "",
     }
@@ -130,7 +152,7 @@ fn get_word<'a>(task: &Task<'a>, blamed: Blamed) -> &'a str
         Blamed::Calls => get_file_word(get_calls_file(task), ""),
         Blamed::Set => get_file_word(get_set_file(task), "the built-in set"),
         Blamed::Name => get_name(task),
-        Blamed::Input => get_file_word(get_place_file(task), "standard input"),
+        Blamed::Input => get_file_word(get_input_file(task), "standard input"),
         Blamed::Output => get_file_word(get_place_file(task), "standard output"),
     }
 }

@@ -69,7 +69,7 @@ fn copy_within(alloc: Global, bytes: &[u8], limit: u64) -> Result<Vec<u8>>
 }
 
 /// The text of a value, whose numbers are floats or not, where it has at most so many bytes.
-fn print_value(
+pub(crate) fn print_value(
     alloc: Global,
     value: Value<'_>,
     floats: bool,
@@ -140,7 +140,7 @@ fn get_text_at(
 
 /// Why a value that is asked for has no text, in both forms, and where; none where it has one. Refused with `OutOfMemory`
 /// alone.
-fn find_fault(
+pub(crate) fn find_fault(
     alloc: Global,
     schema: StructSchema<'_>,
     steps: &[Step<'_>],
@@ -284,7 +284,7 @@ fn get_query_text(
 }
 
 /// The path that words behind points are, as a word.
-fn get_path_word(words: &str) -> &str
+pub(crate) fn get_path_word(words: &str) -> &str
     ensures { (path : List PathStep) → words.now ≡ words_behind_points path → result.now ≡ words_of_path path }
 {
     match words.strip_prefix('.') {
@@ -313,7 +313,7 @@ fn get_heading(alloc: Global, query: &AskedQuery<'_>) -> Result<Vec<u8>>
 }
 
 /// Bytes, and others behind them. Refused with `OutOfMemory` alone.
-fn put_behind(bytes: Vec<u8>, more: &[u8]) -> Result<Vec<u8>>
+pub(crate) fn put_behind(bytes: Vec<u8>, more: &[u8]) -> Result<Vec<u8>>
     ensures put { IfOk result (λ all. all.items ≡ bytes.items ++ more.now) }
     ensures memory { IfErr result (λ e. e.kind ≡ OutOfMemory) }
 {

@@ -3,13 +3,13 @@ ghost use Rattle.std.specs.Prelude.{◌≡◌, ◌≢◌, IfErr, IfOk, MatchResu
 ghost use Rattle.riftcalico_core.specs.declared.fault.Blamed.TheVariants.{Name};
 ghost use Rattle.capnp_device.specs.declared.error.ErrorKind.TheVariants.{OutOfMemory};
 ghost use Rattle.capnp_schema.specs.Entries.{lists_seen};
-ghost use Rattle.riftcalico_core.specs.Jobs.{IsCallsJob, IsCheckJob, IsFromJsonJob, IsGetJob, IsJob, IsJsonJob, IsLineOfPlan, IsNamedStruct, IsNotNamed, IsRootUnnamed, IsValueUnread, is_packed, reads_texts, wants_input};
-ghost use Rattle.riftcalico_core.specs.PlansSeen.{calls_plan_seen, check_plan_seen, from_json_plan_seen, get_plan_seen, json_plan_seen, plan_seen};
+ghost use Rattle.riftcalico_core.specs.Jobs.{IsCallsJob, IsCheckJob, IsDiffJob, IsFromJsonJob, IsGetJob, IsJob, IsJsonJob, IsLineOfPlan, IsNamedStruct, IsNotNamed, IsRootUnnamed, IsValueUnread, is_packed, reads_texts, wants_input};
+ghost use Rattle.riftcalico_core.specs.PlansSeen.{calls_plan_seen, check_plan_seen, diff_plan_seen, from_json_plan_seen, get_plan_seen, json_plan_seen, plan_seen};
 
 use crate::calls::{ReadCall, read_all_calls, steps_of};
 use crate::fault::{Blamed, Fault, Faulty, blame, get_fault};
 use crate::near::get_near_structs;
-use crate::plan::{CallsPlan, CheckPlan, FromJsonPlan, GetPlan, JsonPlan, Plan, Told};
+use crate::plan::{CallsPlan, CheckPlan, DiffPlan, FromJsonPlan, GetPlan, JsonPlan, Plan, Told};
 use crate::queries::{AskedQuery, make_queries};
 use crate::schemas::find_schema;
 use crate::wanted::get_wanted;
@@ -91,6 +91,16 @@ pub struct CompareJob<'s, 'c> {
     pub limit: u64,
 }
 
+/// The struct of a root, the bytes of a newer message of it, to which calls lead from the message that is read, whether both
+/// come packed, and the most bytes that the lines may have together.
+#[derive(Clone, Copy)]
+pub struct DiffJob<'s, 'c> {
+    pub schema: StructSchema<'s>,
+    pub newer: &'c [u8],
+    pub packed: bool,
+    pub limit: u64,
+}
+
 /// What is done to a message.
 #[derive(Drop)]
 pub enum Job<'s, 'c, 'w> {
@@ -114,6 +124,8 @@ pub enum Job<'s, 'c, 'w> {
     Convert(bool, u64),
     /// Two versions of a struct or of all are compared, and no message is read.
     Compatible(CompareJob<'s, 'c>),
+    /// The calls that make it into a newer one are told.
+    Diff(DiffJob<'s, 'c>),
     /// Help is told, of all or of a verb, and no message is read.
     Help(Option<Verb>),
     /// The version is told, and no message is read.
@@ -130,6 +142,7 @@ impl Job<'_, '_, '_> {
             Job::Json(job) => job.packed,
             Job::Check(job) => job.packed,
             Job::Patch(job) => job.packed,
+            Job::Diff(job) => job.packed,
             Job::FromJson(_)
             | Job::New(_)
             | Job::Structs(_, _)
@@ -161,6 +174,7 @@ impl Job<'_, '_, '_> {
             | Job::FromJson(_)
             | Job::Check(_)
             | Job::Patch(_)
+            | Job::Diff(_)
             | Job::Convert(_, _) => true,
             Job::New(_)
             | Job::Structs(_, _)
@@ -281,6 +295,26 @@ fn find_check_job<'s, 'c>(
     })
 }
 
+/// A newer message under the struct of both. Refused with `NameNotFound`, with the near names, and `OutOfMemory`.
+fn find_diff_job<'s, 'c>(
+    alloc: Global,
+    schemas: &'s SchemaSet,
+    plan: DiffPlan<'c>,
+) -> Faulty<DiffJob<'s, 'c>>
+    ensures job { IfOk result (IsDiffJob (diff_plan_seen plan.entry) (lists_seen schemas.now)) }
+    ensures refused { IfErr result (λ f. f.error.kind ≢ OutOfMemory
+        → IsNotNamed (lists_seen schemas.now) (diff_plan_seen plan.entry).root.name f) }
+    ensures blamed { IfErr result (λ f. f.blamed ≡ Name) }
+{
+    let schema = find_root(alloc, schemas, plan.root.name)?;
+    Ok(DiffJob {
+        schema,
+        newer: plan.newer,
+        packed: plan.packed,
+        limit: plan.limit,
+    })
+}
+
 /// Calls under a struct, or the line of the first whose value can't be read. Refused with `OutOfMemory` alone.
 fn read_under<'s, 'c, 'w>(
     alloc: Global,
@@ -374,6 +408,10 @@ pub fn find_job<'s, 'c, 'w>(
             both: plan.both,
             limit: plan.limit,
         }))),
+        Plan::Diff(plan) => {
+            let job = find_diff_job(alloc, schemas, *plan)?;
+            Ok(Ok(Job::Diff(job)))
+        }
         Plan::Help(verb) => Ok(Ok(Job::Help(*verb))),
         Plan::Version => Ok(Ok(Job::Version)),
     }

@@ -14,13 +14,14 @@ use capnp_schema::set::SchemaSet;
 use capnp_wire::error::Result;
 use std::alloc::Global;
 
-/// The file of the set of a plan that reads or writes JSON, if it names one; none of another plan.
+/// The file of the set of a plan that reads or writes JSON, if it names one; none of another plan. Calls that are told may have JSON.
 fn get_json_file<'a>(plan: &Plan<'a>) -> Option<Option<&'a str>>
     ensures { option_map (λ file. option_map (λ f. f.now) file) result ≡ json_file (plan_seen plan.now) }
 {
     match plan {
         Plan::Json(plan) => Some(plan.root.file),
         Plan::FromJson(plan) => Some(plan.root.file),
+        Plan::Diff(plan) => Some(plan.root.file),
         _ => None,
     }
 }

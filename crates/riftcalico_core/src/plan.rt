@@ -90,6 +90,16 @@ pub struct ComparePlan<'a> {
     pub limit: u64,
 }
 
+/// The struct of a root, the bytes of a newer message of it, to which calls lead from an older one, whether both come packed,
+/// and the most bytes that the lines may have together.
+#[derive(Clone, Copy)]
+pub struct DiffPlan<'a> {
+    pub root: NamedRoot<'a>,
+    pub newer: &'a [u8],
+    pub packed: bool,
+    pub limit: u64,
+}
+
 /// What is to be done.
 #[derive(Drop)]
 pub enum Plan<'a> {
@@ -113,6 +123,8 @@ pub enum Plan<'a> {
     Convert(bool, u64),
     /// Two versions of a struct or of all are compared.
     Compatible(ComparePlan<'a>),
+    /// The calls that make one message into another are told.
+    Diff(DiffPlan<'a>),
     /// Help is told, of all or of a verb.
     Help(Option<Verb>),
     /// The version is told.
@@ -135,6 +147,7 @@ impl Plan<'_> {
             Plan::Fields(_, limit) => *limit,
             Plan::Convert(_, limit) => *limit,
             Plan::Compatible(plan) => plan.limit,
+            Plan::Diff(plan) => plan.limit,
             Plan::Help(_) | Plan::Version => 0,
         }
     }
@@ -150,13 +163,14 @@ fn get_given_file<'a>(calls: &CallWords<'a>) -> Option<&'a str>
     }
 }
 
-/// The file of a task's calls, or of the newer of two sets.
+/// The file of a task's calls, or of the newer of two sets or messages.
 pub fn get_calls_file<'a>(task: &Task<'a>) -> Option<&'a str>
     ensures { option_map (λ f. f.now) result ≡ calls_file (task_seen task.now) }
 {
     match task {
         Task::Patch(request) | Task::New(request) => get_given_file(&request.calls),
         Task::Compatible(request) => Some(request.newer),
+        Task::Diff(request) => Some(request.new),
         Task::Get(_)
         | Task::Json(_)
         | Task::FromJson(_)
@@ -321,7 +335,7 @@ fn plan_check<'a>(alloc: Global, request: CheckRequest<'a>) -> Result<Told<Check
 }
 
 /// What a task asks, once its words are read; or the line that tells which of them can't be. `file` has the bytes of the
-/// file of its calls, or of the newer set, if it has one. Refused with `OutOfMemory` alone.
+/// file of its calls, or of the newer set or message, if it has one. Refused with `OutOfMemory` alone.
 pub fn read_plan<'a>(alloc: Global, task: &Task<'a>, file: &'a [u8]) -> Result<Told<Plan<'a>>>
     ensures planned { IfOk result (λ r. told_plan r ≡ task_plan (task_seen task.now) file.now) }
     ensures memory { IfErr result (λ e. e.kind ≡ OutOfMemory) }
@@ -362,6 +376,12 @@ pub fn read_plan<'a>(alloc: Global, task: &Task<'a>, file: &'a [u8]) -> Result<T
             quiet: request.quiet,
             breaking_only: request.breaking_only,
             both: request.both,
+            limit: request.limit,
+        }))),
+        Task::Diff(request) => Ok(Ok(Plan::Diff(DiffPlan {
+            root: request.root,
+            newer: file,
+            packed: request.packed,
             limit: request.limit,
         }))),
         Task::Help(verb) => Ok(Ok(Plan::Help(*verb))),

@@ -31,10 +31,14 @@ use capnp_words::target::{find_field_type, find_named_type};
 use std::alloc::Global;
 
 /// What is asked, by its type, and the step that it doesn't have.
-type Unknown<'c> = (Type, Step<'c>);
+pub(crate) type Unknown<'c> = (Type, Step<'c>);
 
 /// The type of what a step names at a type of the set. None where it fits nothing there.
-fn find_type_behind(schemas: &SchemaSet, kind: TypeVariant, step: Step<'_>) -> Option<Type>
+pub(crate) fn find_type_behind(
+    schemas: &SchemaSet,
+    kind: TypeVariant,
+    step: Step<'_>,
+) -> Option<Type>
     ensures { option_map seen_type result
         ≡ type_behind (lists_seen schemas.now) (seen_variant kind) (step_seen step.entry) }
 {
@@ -73,7 +77,7 @@ fn go_on<'c>(
 }
 
 /// The type at the end of a path, or the first step that fits nothing.
-fn walk_types<'c>(
+pub(crate) fn walk_types<'c>(
     schemas: &SchemaSet,
     start: Type,
     path: &[Step<'c>],

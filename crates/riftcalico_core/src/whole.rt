@@ -4,7 +4,7 @@ ghost use Rattle.capnp_device.specs.declared.error.ErrorKind.TheVariants.{OutOfM
 ghost use Rattle.capnp_schema.specs.Entries.{lists_seen};
 ghost use Rattle.capnp_schema.specs.Schema.{Schemas};
 ghost use Rattle.capnp_versions.specs.Versions.{IsNotComparedAll};
-ghost use Rattle.riftcalico_core.specs.Answers.{IsAnswer, IsNoAnswer, IsWritableOutput, answer_blamed};
+ghost use Rattle.riftcalico_core.specs.Answers.{IsAnswer, IsBlamed, IsNoAnswer, IsWritableOutput};
 ghost use Rattle.riftcalico_core.specs.Comparisons.{IsFullReport, compare_blamed};
 ghost use Rattle.riftcalico_core.specs.Jobs.{IsNoSetIn, IsSetIn};
 ghost use Rattle.riftcalico_core.specs.Plans.{compatible_plan};
@@ -109,7 +109,7 @@ pub fn answer_whole(alloc: Global, older: SchemaSet, plan: WholePlan<'_>) -> Fau
     ensures writable { IfOk result (λ a. IsWritableOutput a.output) }
     ensures refused { IfErr result (λ f. f.error.kind ≢ OutOfMemory
         → OfItsJobs plan.entry (lists_seen older) (λ j. IsNoAnswer j [] f)) }
-    ensures blamed { IfErr result (λ f. OfItsJobs plan.entry (lists_seen older) (λ j. f.blamed ≡ answer_blamed j f.error.kind)) }
+    ensures blamed { IfErr result (λ f. OfItsJobs plan.entry (lists_seen older) (λ j. IsBlamed j f.error.kind f.blamed)) }
 {
     match compare_whole(alloc, older, plan) {
         Ok(answer) => Ok(answer),

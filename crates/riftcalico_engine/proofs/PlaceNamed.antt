@@ -7,7 +7,7 @@ use Rattle.riftcalico_engine.specs.Files.{Opens}
 use Rattle.riftcalico_engine.specs.Outputs.{Ran}
 use Rattle.riftcalico_engine.specs.Places.{IsEndedOrNot, IsPlaceEnded, IsPlaceNamed, Makes, Puts, Removes, new_path}
 use Rattle.riftcalico_engine.specs.Programs.{IsNamed, IsNamedAt}
-use Rattle.riftcalico_engine.specs.Runs.{task_paths}
+use Rattle.riftcalico_engine.specs.Runs.{run_paths, task_paths}
 use Rattle.riftcalico_core.specs.Faults.{place_file}
 use Rattle.riftcalico_words.specs.Tasks.{Task}
 
@@ -69,7 +69,7 @@ module _ {O A N : Type 0} (opens : Opens O A) (makes : Makes O N) (puts : Puts O
   }
 
   none_named_at : (place : Option (List ℕ)) (t : Task) (o : O) → IsNamedAt opens makes puts removes place t o o
-  none_named_at None t o = none_asked opens (task_paths t) o
+  none_named_at None t o = none_asked opens (run_paths t) o
   none_named_at (Some file) t o = unnamed t file o
 
   -- a task that was not begun asks for none

@@ -3,12 +3,13 @@ use Rattle.std.specs.Prelude.{⊤}
 use Rattle.std.proofs.Common.{◌≡◌, ℕ, List, true, false, Option, Some, None, Result, Ok, Err, inl, inr, refl, subst, sym, string_bytes}
 use Rattle.capnp_device.specs.declared.device.DeviceFault.{DeviceFault}
 use Rattle.capnp_device.specs.declared.error.ErrorKind.TheVariants.{OutOfMemory, WriteFailed}
+use Rattle.riftcalico_core.specs.Faults.{old_file}
 use Rattle.riftcalico_engine.specs.Files.{Opens}
 use Rattle.riftcalico_engine.specs.Outputs.{Ran}
 use Rattle.riftcalico_engine.specs.Places.{IsPlaceEnded, IsPlaceNamed, IsPlaceRun, Makes, Puts, Removes, is_whole, new_path}
 use Rattle.riftcalico_engine.specs.Steps.Placing.{HasPlace, IsPlaceOf, IsPlaced, IsUnread, IsUnwritten}
 use Rattle.riftcalico_engine.specs.Programs.{IsNamedAt, IsRunAt}
-use Rattle.riftcalico_engine.specs.Runs.{IsRun, task_paths}
+use Rattle.riftcalico_engine.specs.Runs.{IsRun, IsRunFrom, run_paths}
 use Rattle.capnp_show_engine.specs.Opened.{AsksAmong}
 use Rattle.riftcalico_engine.specs.declared.place.Place.{Place}
 use Rattle.riftcalico_words.specs.Tasks.{Task}
@@ -35,7 +36,7 @@ module _ {O A S W N F : Type 0} (opens : Opens O A) (holds : A → Option (List 
 
   -- no file is replaced
   pub streams_run : (p : Option (List ℕ)) (t : Task) (o o' : O) (s s' : S) (w w' : W) (f f' : F) (r : Ran) → IsPlaceOf p None
-      → IsRun opens holds fails left reads written writes told tells t o o' s s' w w' f f' r
+      → IsRunFrom opens holds fails left reads written writes told tells (old_file t) t o o' s s' w w' f f' r
       → IsRunAt opens holds fails makes puts removes holds_new fails_new left reads written writes told tells p t o o' s s' w w' f f' r
   streams_run None t o o' s s' w w' f f' r none run = run
   streams_run (Some file) t o o' s s' w w' f f' r none run = absurd none
@@ -95,7 +96,7 @@ module _ {O A S W N F : Type 0} (opens : Opens O A) (holds : A → Option (List 
 
 module _ {O A N : Type 0} (opens : Opens O A) (makes : Makes O N) (puts : Puts O N) (removes : Removes O N) where
   -- where no file is replaced
-  pub streams_named : (p : Option (List ℕ)) (t : Task) (o o' : O) → IsPlaceOf p None → AsksAmong opens (task_paths t) o o' → IsNamedAt opens makes puts removes p t o o'
+  pub streams_named : (p : Option (List ℕ)) (t : Task) (o o' : O) → IsPlaceOf p None → AsksAmong opens (run_paths t) o o' → IsNamedAt opens makes puts removes p t o o'
   streams_named None t o o' none h = h
   streams_named (Some file) t o o' none h = absurd none
 

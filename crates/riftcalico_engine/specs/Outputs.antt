@@ -7,7 +7,7 @@ use Rattle.capnp_device.specs.declared.error.ErrorKind.{ErrorKind}
 use Rattle.capnp_device.specs.declared.error.ErrorKind.TheVariants.{OutOfMemory, WriteFailed}
 use Rattle.capnp_patch.specs.Patches.{IsBeginning, IsMessageOf}
 use Rattle.capnp_show_engine.specs.Command.{IsTold, refusal_line}
-use Rattle.riftcalico_core.specs.Answers.{IsAnswer, IsMessageAnswer, IsNoAnswer, IsNoMessageAnswer, answer_blamed}
+use Rattle.riftcalico_core.specs.Answers.{IsAnswer, IsBlamed, IsMessageAnswer, IsNoAnswer, IsNoMessageAnswer}
 use Rattle.riftcalico_core.specs.Faults.{fault_line}
 use Rattle.riftcalico_core.specs.Numbered.{told_lines}
 use Rattle.riftcalico_core.specs.declared.answer.Answer.{Answer}
@@ -102,11 +102,11 @@ module _ {W F : Type 0} (written : W → Option (List ℕ)) (writes : W → ℕ)
   -- there is none to a message's bytes, for want of memory or for what they are; or there is one, and it was written or not
   abbrev pub IsAnsweredTo : Job → (message : Option ℕ) → (bytes : List ℕ) → (sink sink' : W) → (errors errors' : F) → Ran → Type 0
   IsAnsweredTo j message bytes sink sink' errors errors' r =
-      (IsFaultOf message r (λ x. (x.blamed ≡ answer_blamed j x.error.kind) × ((x.error.kind ≡ OutOfMemory) ⊎ IsNoAnswer j bytes x)) × (sink' ≡ sink) × (errors' ≡ errors))
+      (IsFaultOf message r (λ x. IsBlamed j x.error.kind x.blamed × ((x.error.kind ≡ OutOfMemory) ⊎ IsNoAnswer j bytes x)) × (sink' ≡ sink) × (errors' ≡ errors))
       ⊎ ((a : Answer) × IsAnswer j bytes a × IsAnswerPut a message sink sink' errors errors' r)
 
   -- the same to a message that is not packed
   abbrev pub IsMessageAnsweredTo : Job → (message : Option ℕ) → (bytes : List ℕ) → (sink sink' : W) → (errors errors' : F) → Ran → Type 0
   IsMessageAnsweredTo j message bytes sink sink' errors errors' r =
-      (IsFaultOf message r (λ x. (x.blamed ≡ answer_blamed j x.error.kind) × ((x.error.kind ≡ OutOfMemory) ⊎ IsNoMessageAnswer j bytes x)) × (sink' ≡ sink) × (errors' ≡ errors))
+      (IsFaultOf message r (λ x. IsBlamed j x.error.kind x.blamed × ((x.error.kind ≡ OutOfMemory) ⊎ IsNoMessageAnswer j bytes x)) × (sink' ≡ sink) × (errors' ≡ errors))
       ⊎ ((a : Answer) × IsMessageAnswer j bytes a × IsAnswerPut a message sink sink' errors errors' r)

@@ -3,11 +3,11 @@ use Rattle.std.specs.Prelude.{ℕ, ◌≡◌, ◌⊎◌, List, cond, Option, Non
 use Rattle.capnp_device.specs.declared.error.ErrorKind.TheVariants.{OutOfMemory}
 use Rattle.capnp_show_engine.specs.Command.{IsTold, refusal_line}
 use Rattle.capnp_show_engine.specs.Opened.{AsksAmong}
-use Rattle.riftcalico_core.specs.Faults.{place_file}
+use Rattle.riftcalico_core.specs.Faults.{old_file, place_file}
 use Rattle.riftcalico_engine.specs.Files.{Opens}
 use Rattle.riftcalico_engine.specs.Outputs.{IsFaultTold, Ran}
 use Rattle.riftcalico_engine.specs.Places.{IsPlaceNamed, IsPlaceRun, Makes, Puts, Removes}
-use Rattle.riftcalico_engine.specs.Runs.{IsRun, task_paths}
+use Rattle.riftcalico_engine.specs.Runs.{IsRunFrom, run_paths}
 use Rattle.riftcalico_engine.specs.declared.ended.Ended.TheVariants as ended
 use Rattle.riftcalico_words.specs.Requests.{AskedRequest, WordFault}
 use Rattle.riftcalico_words.specs.Tasks.{Task}
@@ -37,9 +37,9 @@ module _ {F : Type 0} (told : F → Option (List ℕ)) (tells : F → ℕ) where
 module _ {O A N S W F : Type 0} (opens : Opens O A) (holds : A → Option (List ℕ)) (fails : A → ℕ)
     (makes : Makes O N) (puts : Puts O N) (removes : Removes O N) (holds_new : N → Option (List ℕ)) (fails_new : N → ℕ)
     (left : S → Option (List ℕ)) (reads : S → ℕ) (written : W → Option (List ℕ)) (writes : W → ℕ) (told : F → Option (List ℕ)) (tells : F → ℕ) where
-  -- a task was done on standard input and output, or on a file that is replaced, and then they were not touched
+  -- a task was done on standard input and output, or from the file of an older message, or on a file that is replaced, and then what that stands for was not touched
   abbrev pub IsRunAt : (place : Option (List ℕ)) → Task → (o o' : O) → (s s' : S) → (w w' : W) → (f f' : F) → Ran → Type 0
-  IsRunAt None t o o' s s' w w' f f' r = IsRun opens holds fails left reads written writes told tells t o o' s s' w w' f f' r
+  IsRunAt None t o o' s s' w w' f f' r = IsRunFrom opens holds fails left reads written writes told tells (old_file t) t o o' s s' w w' f f' r
   IsRunAt (Some file) t o o' s s' w w' f f' r =
       (s' ≡ s) × (w' ≡ w) × IsPlaceRun opens holds fails makes puts removes holds_new fails_new told tells t file o o' f f' r
 
@@ -64,7 +64,7 @@ module _ {O A N S W F : Type 0} (opens : Opens O A) (holds : A → Option (List 
 
 module _ {O A N : Type 0} (opens : Opens O A) (makes : Makes O N) (puts : Puts O N) (removes : Removes O N) where
   abbrev pub IsNamedAt : (place : Option (List ℕ)) → Task → (o o' : O) → Type 0
-  IsNamedAt None t o o' = AsksAmong opens (task_paths t) o o'
+  IsNamedAt None t o o' = AsksAmong opens (run_paths t) o o'
   IsNamedAt (Some file) t o o' = IsPlaceNamed opens makes puts removes t file o o'
 
   -- no files were opened but those that a task names, and none made, replaced or removed but where it replaces one

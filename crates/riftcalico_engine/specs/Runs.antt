@@ -1,13 +1,13 @@
 -- What was done for a task, stage by stage. A stage stopped, or it came to something and the next one began. Of the streams
 -- `s`, `w` and `f` are the message's source, the sink of what is written and that of what is told, each before and after.
-use Rattle.std.specs.Prelude.{ℕ, ◌≡◌, ◌⊎◌, ◌++◌, List, [], Bool, true, false, Option, None, Ok, Err}
+use Rattle.std.specs.Prelude.{ℕ, ◌≡◌, ◌⊎◌, ◌++◌, List, [], Bool, true, false, Option, None, Some, Ok, Err}
 use Rattle.capnp_device.specs.Device.{HasFailed}
 use Rattle.capnp_device.specs.declared.error.ErrorKind.{ErrorKind}
 use Rattle.capnp_device.specs.declared.error.ErrorKind.TheVariants.{OutOfMemory, ReadFailed}
 use Rattle.capnp_schema.specs.Schema.{Schemas}
-use Rattle.capnp_show_engine.specs.Opened.{file_paths}
+use Rattle.capnp_show_engine.specs.Opened.{IsNotOpened, file_paths}
 use Rattle.capnp_show_engine.specs.Show.{IsRead}
-use Rattle.riftcalico_core.specs.Faults.{task_set_file}
+use Rattle.riftcalico_core.specs.Faults.{old_file, task_set_file}
 use Rattle.riftcalico_core.specs.Jobs.{IsJob, IsLineOfPlan, IsRootUnnamed, IsNoSetOf, IsSetOfFile, is_packed, wants_input}
 use Rattle.riftcalico_core.specs.Names.{names_line}
 use Rattle.riftcalico_core.specs.Plans.{Plan, calls_file, plan_limit, task_plan}
@@ -23,6 +23,10 @@ use Rattle.riftcalico_words.specs.declared.request.Messages.TheVariants as messa
 -- the files that a task may open, in their order
 abbrev pub task_paths : Task → List (List ℕ)
 task_paths t = file_paths (calls_file t) ++ file_paths (task_set_file t)
+
+-- the same, with that of an older message, which is opened first
+abbrev pub run_paths : Task → List (List ℕ)
+run_paths t = file_paths (old_file t) ++ task_paths t
 
 -- ---- the answer to a message's bytes ----
 
@@ -90,3 +94,18 @@ module _ {O A S W F : Type 0} (opens : Opens O A) (holds : A → Option (List �
   IsRun t o o' s s' w w' f f' r =
       (IsFault r (λ x. (x.blamed ≡ blamed.Calls) × IsFileUnread opens fails o o' (calls_file t) x.error.kind) × IsIdle left reads written writes told tells s s' w w' f f')
       ⊎ ((mid : O) × (calls : List ℕ) × IsFileRead opens holds o mid (calls_file t) calls × IsWordsRun t calls mid o' s s' w w' f f' r)
+
+module _ {O A W F : Type 0} (opens : Opens O A) (holds : A → Option (List ℕ)) (fails : A → ℕ)
+    (written : W → Option (List ℕ)) (writes : W → ℕ) (told : F → Option (List ℕ)) (tells : F → ℕ) where
+  -- the file of an older message couldn't be opened; or it was, and what is done was done from it
+  abbrev pub IsRunOf : (path : List ℕ) → Task → (o o' : O) → (w w' : W) → (f f' : F) → Ran → Type 0
+  IsRunOf path t o o' w w' f f' r =
+      (IsFault r (λ x. (x.blamed ≡ blamed.Input) × (x.error.kind ≡ ReadFailed)) × IsNotOpened opens o o' path × (w' ≡ w) × (f' ≡ f))
+      ⊎ ((mid : O) × (source : A) × (source' : A) × opens o path (Ok source) mid × IsRun opens holds fails holds fails written writes told tells t mid o' source source' w w' f f' r)
+
+module _ {O A S W F : Type 0} (opens : Opens O A) (holds : A → Option (List ℕ)) (fails : A → ℕ)
+    (left : S → Option (List ℕ)) (reads : S → ℕ) (written : W → Option (List ℕ)) (writes : W → ℕ) (told : F → Option (List ℕ)) (tells : F → ℕ) where
+  -- from the file of an older message, where one is named, and else from the source; what is not read from is not touched
+  abbrev pub IsRunFrom : (file : Option (List ℕ)) → Task → (o o' : O) → (s s' : S) → (w w' : W) → (f f' : F) → Ran → Type 0
+  IsRunFrom None t o o' s s' w w' f f' r = IsRun opens holds fails left reads written writes told tells t o o' s s' w w' f f' r
+  IsRunFrom (Some path) t o o' s s' w w' f f' r = (s' ≡ s) × IsRunOf opens holds fails written writes told tells path t o o' w w' f f' r

@@ -8,7 +8,7 @@ ghost use Rattle.riftcalico_words.specs.Tasks as tasks;
 use crate::place::{
     FilesReplacer, Replacer, find_place, get_placed, is_whole, refuse_new, refuse_old,
 };
-use crate::shell::run;
+use crate::shell::{run, run_from};
 use crate::told::{Told, find_task, get_outcome};
 use capnp_show_engine::command::{report, tell};
 use capnp_show_engine::opener::Opener;
@@ -20,7 +20,8 @@ use std::rt::Files;
 /// written, 1 where a call was refused, or the set, a message or a device, and 2 for words that ask for nothing, with
 /// what is unknown and the usage on `errors`, or for a word that can't be read, which is told with its place. Replies to
 /// calls and refusals are told on `errors`, a line each. Where a line can't be written there, the status is the same. No
-/// files are opened but those that the words name, first that of the calls.
+/// files are opened but those that the words name, first the one whose messages are replaced or that of the older of two
+/// messages, then that of the calls or of the newer one.
 pub fn command_over<O: Opener + Replacer, R: Source, W: Sink, F: Sink>(
     opener: &mut O,
     alloc: Global,
@@ -38,7 +39,7 @@ pub fn command_over<O: Opener + Replacer, R: Source, W: Sink, F: Sink>(
     let outcome = match find_task(alloc, words) {
         Ok(task) => {
             let ran = match find_place(alloc, &task) {
-                Ok(None) => run(alloc, opener, &task, source, sink, errors),
+                Ok(None) => run_from(alloc, opener, &task, source, sink, errors),
                 Ok(Some(place)) => match opener.open(place.file) {
                     Ok(mut old) => match opener.make_new(place.path.as_str(), place.file) {
                         Ok(mut new) => {

@@ -1,12 +1,13 @@
 //! A task done over files and streams, stage by stage: the file of its calls, its words, the file of its set, the set, the
 //! struct of its root and the values of its calls, the message, the answer, what is written and told. Where a stage stops,
 //! none that comes after it has touched a file or stream.
-ghost use Rattle.std.specs.Prelude.{◌≡◌, IfErr, IfOk, Err};
+ghost use Rattle.std.specs.Prelude.{◌∷◌, ◌≡◌, IfErr, IfOk, Err};
 ghost use Rattle.std.specs.Option.{option_map};
 ghost use Rattle.capnp_show_engine.specs.Opened.{AsksAmong, file_paths};
 ghost use Rattle.riftcalico_engine.specs.Files.{IsFileRead, IsFileUnread};
 ghost use Rattle.riftcalico_engine.specs.Outputs.{IsFault};
-ghost use Rattle.riftcalico_engine.specs.Runs.{IsRun, task_paths};
+ghost use Rattle.riftcalico_core.specs.Faults.{old_file};
+ghost use Rattle.riftcalico_engine.specs.Runs.{IsRun, IsRunFrom, IsRunOf, run_paths, task_paths};
 ghost use Rattle.riftcalico_words.specs.RequestSeen.{task_seen};
 
 use crate::answering::put_answer;
@@ -20,7 +21,7 @@ use capnp_wire::device::{Sink, Source};
 use capnp_wire::error::{Error, ErrorKind};
 use capnp_wire::transfer::read_all;
 use riftcalico_core::answer::get_answer;
-use riftcalico_core::fault::{Blamed, get_set_file};
+use riftcalico_core::fault::{Blamed, get_old_file, get_set_file};
 use riftcalico_core::plan::get_calls_file;
 use riftcalico_core::whole::{answer_whole, get_whole_plan};
 use riftcalico_words::request::Task;
@@ -105,5 +106,48 @@ pub fn run<O: Opener, R: Source, W: Sink, F: Sink>(
             let mut unpacked = UnpackSource::new(LentSource { source });
             run_each(alloc, task, &job, going, &mut unpacked, sink, errors)
         }
+    }
+}
+
+/// Does a task as `run`, on the file of an older message, which is opened first of all.
+fn run_older<O: Opener, W: Sink, F: Sink>(
+    alloc: Global,
+    opener: &mut O,
+    path: &str,
+    task: &Task<'_>,
+    sink: &mut W,
+    errors: &mut F,
+) -> Ran
+    ensures ran { IsRunOf O.opens O.File.left O.File.failures W.written W.failures F.written F.failures
+        path.now (task_seen task.now) opener.old opener.new sink.old sink.new errors.old errors.new result }
+    ensures opened { AsksAmong O.opens (path.now ∷ task_paths (task_seen task.now)) opener.old opener.new }
+{
+    match opener.open(path) {
+        Ok(mut old) => run(alloc, opener, task, &mut old, sink, errors),
+        Err(_) => {
+            let error = Error::from(ErrorKind::ReadFailed);
+            Err(refuse(alloc, None, error, Blamed::Input))
+        }
+    }
+}
+
+/// Does a task as `run`, and where it names the file of an older message, on that in place of the source, which isn't touched
+/// then. That file is opened first of all.
+pub fn run_from<O: Opener, R: Source, W: Sink, F: Sink>(
+    alloc: Global,
+    opener: &mut O,
+    task: &Task<'_>,
+    source: &mut R,
+    sink: &mut W,
+    errors: &mut F,
+) -> Ran
+    ensures ran { IsRunFrom O.opens O.File.left O.File.failures R.left R.failures W.written W.failures F.written F.failures
+        (old_file (task_seen task.now)) (task_seen task.now) opener.old opener.new source.old source.new sink.old sink.new
+        errors.old errors.new result }
+    ensures opened { AsksAmong O.opens (run_paths (task_seen task.now)) opener.old opener.new }
+{
+    match get_old_file(task) {
+        Some(path) => run_older(alloc, opener, path, task, sink, errors),
+        None => run(alloc, opener, task, source, sink, errors),
     }
 }

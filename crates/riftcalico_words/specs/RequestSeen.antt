@@ -3,12 +3,13 @@ use Rattle.std.specs.Prelude.{map, Result, Ok, Err}
 use Rattle.std.specs.Option.{option_map}
 use Rattle.riftcalico_words.specs.Requests.{AskedRequest, WordFault, no_bytes, no_verb, other_words, unknown_option, unknown_verb}
 use Rattle.riftcalico_words.specs.Tasks as tasks
-use Rattle.riftcalico_words.specs.Tasks.{CallsTask, CheckTask, CompareTask, FromJsonTask, GetTask, GivenCalls, JsonTask, Root, check_task, compatible_task, convert_task, fields_task, from_json_task, get_task, help_task, json_task, in_lines, in_words, new_task, patch_task, structs_task, version_task}
+use Rattle.riftcalico_words.specs.Tasks.{CallsTask, CheckTask, CompareTask, DiffTask, FromJsonTask, GetTask, GivenCalls, JsonTask, Root, check_task, compatible_task, convert_task, diff_task, fields_task, from_json_task, get_task, help_task, json_task, in_lines, in_words, new_task, patch_task, structs_task, version_task}
 use Rattle.riftcalico_words.specs.declared.request.CallWords.{CallWords}
 use Rattle.riftcalico_words.specs.declared.request.CallWords.TheVariants as words
 use Rattle.riftcalico_words.specs.declared.request.CallsRequest.{CallsRequest}
 use Rattle.riftcalico_words.specs.declared.request.CheckRequest.{CheckRequest}
 use Rattle.riftcalico_words.specs.declared.request.CompareRequest.{CompareRequest}
+use Rattle.riftcalico_words.specs.declared.request.DiffRequest.{DiffRequest}
 use Rattle.riftcalico_words.specs.declared.request.FromJsonRequest.{FromJsonRequest}
 use Rattle.riftcalico_words.specs.declared.request.GetRequest.{GetRequest}
 use Rattle.riftcalico_words.specs.declared.request.JsonRequest.{JsonRequest}
@@ -36,6 +37,9 @@ check_task_of r = record { root = root_named r.root; path = r.path.now; all = r.
 abbrev pub compare_task_of : CompareRequest → CompareTask
 compare_task_of r = record { older = r.older.now; newer = r.newer.now; name = option_map (λ w. w.now) r.name; quiet = r.quiet; breaking_only = r.breaking_only; both = r.both; limit = r.limit }
 
+abbrev pub diff_task_of : DiffRequest → DiffTask
+diff_task_of r = record { root = root_named r.root; old = r.old.now; new = r.new.now; packed = r.packed; limit = r.limit }
+
 abbrev pub given_of : CallWords → GivenCalls
 given_of (words.Words ws) = in_words (map (λ w. w.now) ws.items)
 given_of (words.Lines path) = in_lines path.now
@@ -54,6 +58,7 @@ task_seen (task.Structs file limit) = structs_task (option_map (λ f. f.now) fil
 task_seen (task.Fields r limit) = fields_task (root_named r) limit
 task_seen (task.Convert strict limit) = convert_task strict limit
 task_seen (task.Compatible r) = compatible_task (compare_task_of r)
+task_seen (task.Diff r) = diff_task (diff_task_of r)
 task_seen (task.Help v) = help_task v
 task_seen task.Version = version_task
 

@@ -3,7 +3,7 @@ use Rattle.std.specs.Prelude.{ℕ, List, [], ◌∷◌, ◌^◌, Bool, true, fal
 use Rattle.std.specs.Option.{option_map}
 use Rattle.riftcalico_words.specs.Numbers.{number_asked}
 use Rattle.riftcalico_words.specs.Options.{WordOptions, no_options, options_read}
-use Rattle.riftcalico_words.specs.Tasks.{CallsTask, GivenCalls, Task, check_task, compatible_task, convert_task, fields_task, from_json_task, get_task, help_task, json_task, in_lines, in_words, new_task, patch_task, structs_task, version_task}
+use Rattle.riftcalico_words.specs.Tasks.{CallsTask, GivenCalls, Task, check_task, compatible_task, convert_task, diff_task, fields_task, from_json_task, get_task, help_task, json_task, in_lines, in_words, new_task, patch_task, structs_task, version_task}
 use Rattle.riftcalico_words.specs.declared.options.Flag.{Flag}
 use Rattle.riftcalico_words.specs.declared.options.Flag.TheVariants as flag
 use Rattle.riftcalico_words.specs.declared.options.ValueOption.{ValueOption}
@@ -36,6 +36,7 @@ verb_of word =
     else if bytes_eq word (codes "structs") then Some verb.Structs
     else if bytes_eq word (codes "schemas") then Some verb.Schemas
     else if bytes_eq word (codes "compatible") then Some verb.Compatible
+    else if bytes_eq word (codes "diff") then Some verb.Diff
     else None
 
 -- the messages that are meant: the first, or with `--each` all
@@ -74,6 +75,7 @@ is_comparison v = false
 abbrev pub takes_set : Verb → Bool
 takes_set verb.Structs = true
 takes_set verb.FromJson = true
+takes_set verb.Diff = true
 takes_set v = is_on_messages v
 
 abbrev pub takes_place : Verb → Bool
@@ -92,6 +94,7 @@ takes_indent v = is_reading v
 
 abbrev pub takes_packed : Verb → Bool
 takes_packed verb.FromJson = true
+takes_packed verb.Diff = true
 takes_packed v = is_on_messages v
 
 abbrev pub takes_each : Verb → Bool
@@ -257,6 +260,12 @@ compatible_asked o limit (older ∷ newer ∷ []) = Some (compared_of o limit ol
 compatible_asked o limit (older ∷ newer ∷ name ∷ []) = Some (compared_of o limit older newer (Some name))
 compatible_asked o limit words = None
 
+-- what is asked of two messages
+abbrev pub diff_asked : WordOptions → (limit : ℕ) → List (List ℕ) → Option Task
+diff_asked o limit (name ∷ old ∷ new ∷ []) =
+    Some (diff_task (record { root = record { file = o.set; name = name }; old = old; new = new; packed = o.packed; limit = limit }))
+diff_asked o limit words = None
+
 abbrev pub plain_asked : Verb → WordOptions → (limit : ℕ) → Option Task
 plain_asked verb.Show o limit = None
 plain_asked verb.Get o limit = None
@@ -268,6 +277,7 @@ plain_asked verb.New o limit = None
 plain_asked verb.Structs o limit = structs_asked o limit o.others
 plain_asked verb.Schemas o limit = schemas_asked o limit o.others
 plain_asked verb.Compatible o limit = compatible_asked o limit o.others
+plain_asked verb.Diff o limit = diff_asked o limit o.others
 
 abbrev pub verb_asked : Verb → WordOptions → (limit : ℕ) → Option Task
 verb_asked verb.Show o limit = show_asked o limit o.others

@@ -74,8 +74,16 @@ pub record CompareTask : Type 0 where
   pub both : Bool
   pub limit : ℕ
 
+-- what makes the message of an older file into that of a newer one, both under a struct, whether they come packed, and the most bytes that the text may have
+pub record DiffTask : Type 0 where
+  pub root : Root
+  pub old : List ℕ
+  pub new : List ℕ
+  pub packed : Bool
+  pub limit : ℕ
+
 -- Values are shown, or as JSON, a JSON text is made a message, or a value is only looked at whether it can be, calls are made on a copy of a message or on an empty root, the structs of a set are shown, in the set of a file or else in the built-in one, or the fields of a struct, a compiler's request is made a set, each of at most so many bytes,
--- two versions of a struct or of all are compared, or help is told, of all or of a verb, or the version.
+-- two versions of a struct or of all are compared, or two messages, or help is told, of all or of a verb, or the version.
 pub data Task : Type 0 where
   get_task : GetTask → Task
   json_task : JsonTask → Task
@@ -87,6 +95,7 @@ pub data Task : Type 0 where
   fields_task : Root → (limit : ℕ) → Task
   convert_task : (strict : Bool) → (limit : ℕ) → Task
   compatible_task : CompareTask → Task
+  diff_task : DiffTask → Task
   help_task : Option Verb → Task
   version_task : Task
 
@@ -102,5 +111,6 @@ task_messages (structs_task file limit) = messages.First
 task_messages (fields_task r limit) = messages.First
 task_messages (convert_task strict limit) = messages.First
 task_messages (compatible_task t) = messages.First
+task_messages (diff_task t) = messages.First
 task_messages (help_task v) = messages.First
 task_messages version_task = messages.First

@@ -17,6 +17,7 @@ usage_lines =
     ++ codes "       riftcalico structs [--set FILE] [--limit BYTES] [NAME]\n"
     ++ codes "       riftcalico schemas [--strict] [--limit BYTES]\n"
     ++ codes "       riftcalico compatible [--quiet] [--breaking-only] [--both] [--limit BYTES] OLD NEW [NAME]\n"
+    ++ codes "       riftcalico diff [--set FILE] [--packed] [--limit BYTES] NAME OLD NEW\n"
 
 -- how a verb is
 abbrev pub verb_usage : Verb → List ℕ
@@ -30,6 +31,7 @@ verb_usage verb.New = codes "usage: riftcalico new [--set FILE] [--calls FILE] [
 verb_usage verb.Structs = codes "usage: riftcalico structs [--set FILE] [--limit BYTES] [NAME]\n"
 verb_usage verb.Schemas = codes "usage: riftcalico schemas [--strict] [--limit BYTES]\n"
 verb_usage verb.Compatible = codes "usage: riftcalico compatible [--quiet] [--breaking-only] [--both] [--limit BYTES] OLD NEW [NAME]\n"
+verb_usage verb.Diff = codes "usage: riftcalico diff [--set FILE] [--packed] [--limit BYTES] NAME OLD NEW\n"
 
 -- what a verb does
 abbrev pub verb_help : Verb → List ℕ
@@ -125,6 +127,14 @@ verb_help verb.Compatible =
     ++ codes "last line how many structs are compatible and how many not. The status is 0 where all are.\n"
     ++ codes "With --both the sets are compared a second time as if OLD were the newer one, and a line stands before each direction. The\n"
     ++ codes "status is 0 where both are compatible. No text is printed of more bytes than --limit, or else 1 GiB.\n"
+verb_help verb.Diff =
+    codes "usage: riftcalico diff [--set FILE] [--packed] [--limit BYTES] NAME OLD NEW\n"
+    ++ codes "\n"
+    ++ codes "Prints the calls that make the first message of the file OLD into that of NEW, both of a struct NAME: a line each, as\n"
+    ++ codes "'riftcalico patch --calls' reads them. Nothing is printed where the two are equal. A struct or list that is put whole is\n"
+    ++ codes "told as its JSON. With --packed both messages are read packed. The lines have no more bytes together than --limit, or\n"
+    ++ codes "else 1 GiB.\n"
+    ++ codes "NAME is a struct of the set in FILE, as 'riftcalico schemas' writes it, or else of the built-in set.\n"
 
 -- what the program does, or one verb
 abbrev pub program_help : List ℕ
@@ -142,6 +152,7 @@ program_help =
     ++ codes "       riftcalico structs [--set FILE] [--limit BYTES] [NAME]\n"
     ++ codes "       riftcalico schemas [--strict] [--limit BYTES]\n"
     ++ codes "       riftcalico compatible [--quiet] [--breaking-only] [--both] [--limit BYTES] OLD NEW [NAME]\n"
+    ++ codes "       riftcalico diff [--set FILE] [--packed] [--limit BYTES] NAME OLD NEW\n"
     ++ codes "\n"
     ++ codes "More of a verb is told by 'riftcalico VERB --help', the version by 'riftcalico --version'.\n"
 

@@ -3,13 +3,14 @@ ghost use Rattle.std.specs.Prelude.{◌≡◌, IfErr, IfOk, map, string_bytes};
 ghost use Rattle.capnp_device.specs.declared.error.ErrorKind.TheVariants.{OutOfMemory};
 ghost use Rattle.std.specs.Option.{option_map};
 ghost use Rattle.riftcalico_words.specs.OptionsSeen.{options_seen};
-ghost use Rattle.riftcalico_words.specs.Requests.{asked_request, calls_asked, checked_of, compared_of, flags_fit, from_json_of, get_asked, given_asked, going_fits, is_allowed, is_fitting, is_comparison, is_on_messages, is_reading, is_with_calls, got_of, json_asked, json_of, limit_asked, messages_of, options_asked, place_fits, plain_asked, show_asked, shown_of, style_fits, takes_each, takes_flag, takes_value, values_fit, verb_of, verb_request};
+ghost use Rattle.riftcalico_words.specs.Requests.{asked_request, calls_asked, checked_of, compared_of, from_json_of, get_asked, given_asked, got_of, json_asked, json_of, limit_asked, messages_of, options_asked, plain_asked, show_asked, shown_of, verb_of, verb_request};
 ghost use Rattle.riftcalico_words.specs.RequestSeen.{asked_seen, calls_task_of, given_of, task_seen};
 ghost use Rattle.riftcalico_words.specs.Steps.Limits.{limit_seen};
 ghost use Rattle.riftcalico_words.specs.Tasks.{task_messages};
 
+use crate::fit::is_fit;
 use crate::numbers::read_number;
-use crate::options::{Flag, Options, ValueOption, read_options};
+use crate::options::{Options, read_options};
 use capnp_device::error::Result;
 use std::alloc::Global;
 
@@ -39,6 +40,8 @@ pub enum Verb {
     Schemas,
     /// Two versions of a schema are compared.
     Compatible,
+    /// The calls that make one message into another are told.
+    Diff,
 }
 
 /// The messages of the input that are meant.
@@ -144,6 +147,17 @@ pub struct CompareRequest<'a> {
     pub limit: u64,
 }
 
+/// The messages of two files, an older and a newer one, of a struct, whether they come packed, and the most bytes that the
+/// text may have of what makes one into the other.
+#[derive(Clone, Copy)]
+pub struct DiffRequest<'a> {
+    pub root: NamedRoot<'a>,
+    pub old: &'a str,
+    pub new: &'a str,
+    pub packed: bool,
+    pub limit: u64,
+}
+
 /// What is to be done.
 #[derive(Drop)]
 pub enum Task<'a> {
@@ -167,6 +181,8 @@ pub enum Task<'a> {
     Convert(bool, u64),
     /// What differs between two versions of a schema.
     Compatible(CompareRequest<'a>),
+    /// The calls that make one message into another are told.
+    Diff(DiffRequest<'a>),
     /// What can be done is told, or how one verb is called.
     Help(Option<Verb>),
     /// The version of the program is told.
@@ -206,6 +222,7 @@ pub fn get_messages(task: &Task<'_>) -> Messages
         | Task::Fields(_, _)
         | Task::Convert(_, _)
         | Task::Compatible(_)
+        | Task::Diff(_)
         | Task::Help(_)
         | Task::Version => Messages::First,
     }
@@ -226,6 +243,7 @@ fn read_verb(word: &str) -> Option<Verb>
         "structs" => Some(Verb::Structs),
         "schemas" => Some(Verb::Schemas),
         "compatible" => Some(Verb::Compatible),
+        "diff" => Some(Verb::Diff),
         _ => None,
     }
 }
@@ -241,171 +259,6 @@ fn read_messages(options: &Options<'_>) -> Messages
     } else {
         Messages::Each
     }
-}
-
-/// Whether a verb only reads messages.
-fn is_reading(verb: Verb) -> bool
-    ensures { result ≡ is_reading verb }
-{
-    match verb {
-        Verb::Show | Verb::Get | Verb::Json | Verb::Check => true,
-        Verb::FromJson
-        | Verb::Patch
-        | Verb::New
-        | Verb::Structs
-        | Verb::Schemas
-        | Verb::Compatible => false,
-    }
-}
-
-/// Whether a verb takes messages, or gives one.
-fn is_on_messages(verb: Verb) -> bool
-    ensures { result ≡ is_on_messages verb }
-{
-    match verb {
-        Verb::Patch | Verb::New => true,
-        _ => is_reading(verb),
-    }
-}
-
-/// Whether a verb makes calls.
-fn is_with_calls(verb: Verb) -> bool
-    ensures { result ≡ is_with_calls verb }
-{
-    match verb {
-        Verb::Patch | Verb::New => true,
-        _ => false,
-    }
-}
-
-/// Whether a verb takes an option that has a word behind it.
-fn takes_value(verb: Verb, option: ValueOption) -> bool
-    ensures { result ≡ takes_value verb option }
-{
-    match option {
-        ValueOption::Set => match verb {
-            Verb::Structs | Verb::FromJson => true,
-            _ => is_on_messages(verb),
-        },
-        ValueOption::Calls => is_with_calls(verb),
-        ValueOption::Limit => true,
-        ValueOption::InPlace => match verb {
-            Verb::Patch => true,
-            _ => false,
-        },
-    }
-}
-
-/// Whether a verb takes several messages, or texts that are made messages.
-fn takes_each(verb: Verb) -> bool
-    ensures { result ≡ takes_each verb }
-{
-    match verb {
-        Verb::Patch | Verb::FromJson => true,
-        _ => is_reading(verb),
-    }
-}
-
-/// Whether a verb takes an option that has none.
-fn takes_flag(verb: Verb, flag: Flag) -> bool
-    ensures { result ≡ takes_flag verb flag }
-{
-    match flag {
-        Flag::Indent => match verb {
-            Verb::Check => false,
-            _ => is_reading(verb),
-        },
-        Flag::Raw | Flag::Paths | Flag::Json => match verb {
-            Verb::Get => true,
-            _ => false,
-        },
-        Flag::KeepGoing => takes_each(verb) || is_with_calls(verb),
-        Flag::Packed => match verb {
-            Verb::FromJson => true,
-            _ => is_on_messages(verb),
-        },
-        Flag::Each => takes_each(verb),
-        Flag::Strict => match verb {
-            Verb::Schemas | Verb::FromJson => true,
-            _ => false,
-        },
-        Flag::All => match verb {
-            Verb::Check => true,
-            _ => false,
-        },
-        Flag::Quiet | Flag::BreakingOnly | Flag::Both => match verb {
-            Verb::Compatible => true,
-            _ => false,
-        },
-        Flag::Help => true,
-    }
-}
-
-/// Whether a verb takes the options with words that stand there.
-fn do_values_fit(verb: Verb, options: &Options<'_>) -> bool
-    ensures { result ≡ values_fit verb (options_seen options.now) }
-{
-    (options.set.is_none() || takes_value(verb, ValueOption::Set))
-        && (options.calls.is_none() || takes_value(verb, ValueOption::Calls))
-        && (options.limit.is_none() || takes_value(verb, ValueOption::Limit))
-        && (options.in_place.is_none() || takes_value(verb, ValueOption::InPlace))
-}
-
-/// Whether an option is none that stands where its verb doesn't take it.
-fn is_allowed(stands: bool, verb: Verb, flag: Flag) -> bool
-    ensures { result ≡ is_allowed stands (takes_flag verb flag) }
-{
-    !stands || takes_flag(verb, flag)
-}
-
-/// Whether a verb takes the options without words that stand there.
-fn do_flags_fit(verb: Verb, options: &Options<'_>) -> bool
-    ensures { result ≡ flags_fit verb (options_seen options.now) }
-{
-    is_allowed(options.indent, verb, Flag::Indent)
-        && is_allowed(options.raw, verb, Flag::Raw)
-        && is_allowed(options.paths, verb, Flag::Paths)
-        && is_allowed(options.json, verb, Flag::Json)
-        && is_allowed(options.keep_going, verb, Flag::KeepGoing)
-        && is_allowed(options.packed, verb, Flag::Packed)
-        && is_allowed(options.each, verb, Flag::Each)
-        && is_allowed(options.strict, verb, Flag::Strict)
-        && is_allowed(options.all, verb, Flag::All)
-        && is_allowed(options.quiet, verb, Flag::Quiet)
-        && is_allowed(options.breaking_only, verb, Flag::BreakingOnly)
-        && is_allowed(options.both, verb, Flag::Both)
-}
-
-/// Whether a verb that makes no calls is to go on behind a message that is refused only where there are several.
-fn does_going_fit(verb: Verb, options: &Options<'_>) -> bool
-    ensures { result ≡ going_fits verb (options_seen options.now) }
-{
-    is_with_calls(verb) || !options.keep_going || options.each
-}
-
-/// Whether no file is to be replaced where a refused call or message may be passed over, which its messages would then lack.
-fn does_place_fit(options: &Options<'_>) -> bool
-    ensures { result ≡ place_fits (options_seen options.now) }
-{
-    options.in_place.is_none() || !options.keep_going
-}
-
-/// Whether a JSON is to be told neither as bytes nor behind its path.
-fn does_style_fit(options: &Options<'_>) -> bool
-    ensures { result ≡ style_fits (options_seen options.now) }
-{
-    !options.json || (!options.raw && !options.paths)
-}
-
-/// Whether a verb takes these options.
-fn is_fit(verb: Verb, options: &Options<'_>) -> bool
-    ensures { result ≡ is_fitting verb (options_seen options.now) }
-{
-    do_values_fit(verb, options)
-        && do_flags_fit(verb, options)
-        && does_going_fit(verb, options)
-        && does_place_fit(options)
-        && does_style_fit(options)
 }
 
 /// The most bytes that are made, or the word that is no number of bytes.
@@ -654,7 +507,7 @@ fn read_compared<'a>(
     })
 }
 
-/// What is asked of JSON texts, of a value that is looked at, or of sets, by its verb and the other words.
+/// What is asked of JSON texts, of a value that is looked at, of sets, or of two messages, by its verb and the other words.
 fn read_plain<'a>(verb: Verb, options: &Options<'a>, limit: u64) -> Option<Task<'a>>
     ensures { option_map task_seen result ≡ plain_asked verb (options_seen options.now) limit }
 {
@@ -672,6 +525,13 @@ fn read_plain<'a>(verb: Verb, options: &Options<'a>, limit: u64) -> Option<Task<
         (Verb::Compatible, [older, newer, name]) => {
             Some(read_compared(options, *older, *newer, Some(*name), limit))
         }
+        (Verb::Diff, [name, old, new]) => Some(Task::Diff(DiffRequest {
+            root: NamedRoot { file, name: *name },
+            old: *old,
+            new: *new,
+            packed: options.packed,
+            limit,
+        })),
         _ => None,
     }
 }
@@ -701,9 +561,12 @@ fn read_task<'a>(
         Verb::Show => read_show(alloc, options, limit),
         Verb::Get => read_get(alloc, options, limit),
         Verb::Json => read_json(alloc, options, limit),
-        Verb::FromJson | Verb::Check | Verb::Structs | Verb::Schemas | Verb::Compatible => Ok(
-            read_plain(verb, options, limit),
-        ),
+        Verb::FromJson
+        | Verb::Check
+        | Verb::Structs
+        | Verb::Schemas
+        | Verb::Compatible
+        | Verb::Diff => Ok(read_plain(verb, options, limit)),
     }
 }
 
@@ -746,6 +609,7 @@ fn read_behind<'a>(alloc: Global, verb: Verb, words: &'a [String]) -> Result<Ask
 /// |`structs`, `structs NAME`|the structs of a set are shown, or the fields of one|
 /// |`schemas`|a compiler's request is made a set|
 /// |`compatible OLD NEW`, `compatible OLD NEW NAME`|two versions of all structs are compared, or of one|
+/// |`diff NAME OLD NEW`|the calls are told that make one message into another|
 /// |`--help`, and behind a verb|help, of all or of the verb|
 /// |`--version`|the version|
 ///
@@ -753,8 +617,8 @@ fn read_behind<'a>(alloc: Global, verb: Verb, words: &'a [String]) -> Result<Ask
 ///
 /// |options|verbs|
 /// |---|---|
-/// |`--set FILE`|those on messages, `from-json` and `structs`|
-/// |`--packed`|those on messages, `from-json`|
+/// |`--set FILE`|those on messages, `from-json`, `diff` and `structs`|
+/// |`--packed`|those on messages, `from-json`, `diff`|
 /// |`--limit N`|all|
 /// |`--indent`|`show`, `get`, `json`|
 /// |`--raw`, `--paths`, or `--json`|`get`|

@@ -22,6 +22,7 @@ usage: riftcalico show [--set FILE] [--packed] [--limit BYTES] [--each [--keep-g
        riftcalico structs [--set FILE] [--limit BYTES] [NAME]
        riftcalico schemas [--strict] [--limit BYTES]
        riftcalico compatible [--quiet] [--breaking-only] [--both] [--limit BYTES] OLD NEW [NAME]
+       riftcalico diff [--set FILE] [--packed] [--limit BYTES] NAME OLD NEW
 ";
 
 const HELP: &str = "\
@@ -38,6 +39,7 @@ usage: riftcalico show [--set FILE] [--packed] [--limit BYTES] [--each [--keep-g
        riftcalico structs [--set FILE] [--limit BYTES] [NAME]
        riftcalico schemas [--strict] [--limit BYTES]
        riftcalico compatible [--quiet] [--breaking-only] [--both] [--limit BYTES] OLD NEW [NAME]
+       riftcalico diff [--set FILE] [--packed] [--limit BYTES] NAME OLD NEW
 
 More of a verb is told by 'riftcalico VERB --help', the version by 'riftcalico --version'.
 ";
@@ -80,6 +82,10 @@ usage: riftcalico schemas [--strict] [--limit BYTES]
 
 const COMPATIBLE_USAGE: &str = "\
 usage: riftcalico compatible [--quiet] [--breaking-only] [--both] [--limit BYTES] OLD NEW [NAME]
+";
+
+const DIFF_USAGE: &str = "\
+usage: riftcalico diff [--set FILE] [--packed] [--limit BYTES] NAME OLD NEW
 ";
 
 const SHOW_HELP: &str = "\
@@ -194,6 +200,16 @@ With --both the sets are compared a second time as if OLD were the newer one, an
 status is 0 where both are compatible. No text is printed of more bytes than --limit, or else 1 GiB.
 ";
 
+const DIFF_HELP: &str = "\
+usage: riftcalico diff [--set FILE] [--packed] [--limit BYTES] NAME OLD NEW
+
+Prints the calls that make the first message of the file OLD into that of NEW, both of a struct NAME: a line each, as
+'riftcalico patch --calls' reads them. Nothing is printed where the two are equal. A struct or list that is put whole is
+told as its JSON. With --packed both messages are read packed. The lines have no more bytes together than --limit, or
+else 1 GiB.
+NAME is a struct of the set in FILE, as 'riftcalico schemas' writes it, or else of the built-in set.
+";
+
 /// How a verb is called.
 pub fn get_verb_usage(verb: Verb) -> &'static str
     ensures { result.now ≡ verb_usage verb }
@@ -209,6 +225,7 @@ pub fn get_verb_usage(verb: Verb) -> &'static str
         Verb::Structs => STRUCTS_USAGE,
         Verb::Schemas => SCHEMAS_USAGE,
         Verb::Compatible => COMPATIBLE_USAGE,
+        Verb::Diff => DIFF_USAGE,
     }
 }
 
@@ -227,6 +244,7 @@ fn get_verb_help(verb: Verb) -> &'static str
         Verb::Structs => STRUCTS_HELP,
         Verb::Schemas => SCHEMAS_HELP,
         Verb::Compatible => COMPATIBLE_HELP,
+        Verb::Diff => DIFF_HELP,
     }
 }
 

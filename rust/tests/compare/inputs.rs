@@ -73,13 +73,13 @@ pub fn made(examples: &Examples, seed: u64) -> Input {
 
 /// Whether an input is read and answered without gigabytes between.
 fn is_light(input: &Input) -> bool {
-    let is_set_light = |(name, bytes): &(&str, Vec<u8>)| *name != "set" || is_within(bytes, STEPS);
+    let is_message_light = |(name, bytes): &(&str, Vec<u8>)| *name == "calls" || is_within(bytes, STEPS);
     let is_heavy_file = |(_, bytes): &(&str, Vec<u8>)| String::from_utf8_lossy(bytes).lines().any(words::is_heavy);
     let is_heavy_word = input.words.iter().any(|word| words::is_heavy(&word.to_string_lossy()));
     let are_files_light = input
         .files
         .iter()
-        .all(|file| is_set_light(file) && !is_heavy_file(file));
+        .all(|file| is_message_light(file) && !is_heavy_file(file));
     are_files_light && !is_heavy_word && is_within(&input.stdin, STEPS)
 }
 
@@ -154,13 +154,14 @@ impl Parts<'_> {
     fn query(&mut self) -> Vec<u8> {
         let verb = *self
             .random
-            .one_of(&["get", "get", "patch", "patch", "patch", "new", "structs"]);
+            .one_of(&["get", "get", "patch", "patch", "patch", "new", "structs", "diff"]);
         self.word(verb);
         let (place, name) = self.root();
         match verb {
             "get" => self.get(place, &name),
             "structs" if self.random.once_in(2) => {}
             "structs" => self.word(&name),
+            "diff" => self.diff(place, &name),
             _ => self.calls(place, &name),
         }
         self.message(place, 3)
@@ -183,6 +184,16 @@ impl Parts<'_> {
             if self.random.once_in(3) {
                 self.word(option);
             }
+        }
+    }
+
+    /// The words behind those of the set, of a `diff`, and its two messages.
+    fn diff(&mut self, place: usize, name: &str) {
+        self.word(name);
+        for file in ["old", "new"] {
+            let bytes = self.message(place, 3);
+            self.files.push((file, bytes));
+            self.word(file);
         }
     }
 

@@ -28,8 +28,8 @@ returns-clause-done g c =
           let t = task_seen w.in-Ok.task in
           let place = place_file t in
           let run = elim w.match-find_place.branch as (λ _. IsRunAt g.O.Opener.opens g.O.File.Source.left g.O.File.Source.failures g.O.Replacer.makes g.O.Replacer.puts g.O.Replacer.removes g.O.New.Sink.written g.O.New.Sink.failures g.R.Source.left g.R.Source.failures g.W.Sink.written g.W.Sink.failures g.F.Sink.written g.F.Sink.failures place t c.args.opener.now w.match-find_place.opener c.args.source.now w.match-find_place.source c.args.sink.now w.match-find_place.sink c.args.errors.now w.match-find_place.errors w.match-find_place.ran) [
-            | in-Ok-None a ↦ joined_five (λ r o s k f. IsRunAt g.O.Opener.opens g.O.File.Source.left g.O.File.Source.failures g.O.Replacer.makes g.O.Replacer.puts g.O.Replacer.removes g.O.New.Sink.written g.O.New.Sink.failures g.R.Source.left g.R.Source.failures g.W.Sink.written g.W.Sink.failures g.F.Sink.written g.F.Sink.failures place t c.args.opener.now o c.args.source.now s c.args.sink.now k c.args.errors.now f r) w.match-find_place.ran a.run-ran.result w.match-find_place.opener a.run-ran.new.opener w.match-find_place.source a.run-ran.new.source w.match-find_place.sink a.run-ran.new.sink w.match-find_place.errors a.run-ran.new.errors a.ran-is a.opener-is a.source-is a.sink-is a.errors-is
-                (streams_run g.O.Opener.opens g.O.File.Source.left g.O.File.Source.failures g.O.Replacer.makes g.O.Replacer.puts g.O.Replacer.removes g.O.New.Sink.written g.O.New.Sink.failures g.R.Source.left g.R.Source.failures g.W.Sink.written g.W.Sink.failures g.F.Sink.written g.F.Sink.failures place t c.args.opener.now a.run-ran.new.opener c.args.source.now a.run-ran.new.source c.args.sink.now a.run-ran.new.sink c.args.errors.now a.run-ran.new.errors a.run-ran.result (rw a.in-Ok-None.field-0-is at a.in-Ok-None.ensures.place) a.run-ran.ensures.ran)
+            | in-Ok-None a ↦ joined_five (λ r o s k f. IsRunAt g.O.Opener.opens g.O.File.Source.left g.O.File.Source.failures g.O.Replacer.makes g.O.Replacer.puts g.O.Replacer.removes g.O.New.Sink.written g.O.New.Sink.failures g.R.Source.left g.R.Source.failures g.W.Sink.written g.W.Sink.failures g.F.Sink.written g.F.Sink.failures place t c.args.opener.now o c.args.source.now s c.args.sink.now k c.args.errors.now f r) w.match-find_place.ran a.run_from-ran.result w.match-find_place.opener a.run_from-ran.new.opener w.match-find_place.source a.run_from-ran.new.source w.match-find_place.sink a.run_from-ran.new.sink w.match-find_place.errors a.run_from-ran.new.errors a.ran-is a.opener-is a.source-is a.sink-is a.errors-is
+                (streams_run g.O.Opener.opens g.O.File.Source.left g.O.File.Source.failures g.O.Replacer.makes g.O.Replacer.puts g.O.Replacer.removes g.O.New.Sink.written g.O.New.Sink.failures g.R.Source.left g.R.Source.failures g.W.Sink.written g.W.Sink.failures g.F.Sink.written g.F.Sink.failures place t c.args.opener.now a.run_from-ran.new.opener c.args.source.now a.run_from-ran.new.source c.args.sink.now a.run_from-ran.new.sink c.args.errors.now a.run_from-ran.new.errors a.run_from-ran.result (rw a.in-Ok-None.field-0-is at a.in-Ok-None.ensures.place) a.run_from-ran.ensures.ran)
             | in-Err-find_place a ↦ joined_five (λ r o s k f. IsRunAt g.O.Opener.opens g.O.File.Source.left g.O.File.Source.failures g.O.Replacer.makes g.O.Replacer.puts g.O.Replacer.removes g.O.New.Sink.written g.O.New.Sink.failures g.R.Source.left g.R.Source.failures g.W.Sink.written g.W.Sink.failures g.F.Sink.written g.F.Sink.failures place t c.args.opener.now o c.args.source.now s c.args.sink.now k c.args.errors.now f r) w.match-find_place.ran (Err a.in-Err-find_place.refusal) w.match-find_place.opener c.args.opener.now w.match-find_place.source c.args.source.now w.match-find_place.sink c.args.sink.now w.match-find_place.errors c.args.errors.now a.ran-is a.opener-is a.source-is a.sink-is a.errors-is
                 (pathless_run g.O.Opener.opens g.O.File.Source.left g.O.File.Source.failures g.O.Replacer.makes g.O.Replacer.puts g.O.Replacer.removes g.O.New.Sink.written g.O.New.Sink.failures g.R.Source.left g.R.Source.failures g.W.Sink.written g.W.Sink.failures g.F.Sink.written g.F.Sink.failures place t c.args.opener.now c.args.source.now c.args.sink.now c.args.errors.now (Err a.in-Err-find_place.refusal) a.in-Err-find_place.ensures.refused.0 a.in-Err-find_place.ensures.refused.1)
             | in-Ok-Some a ↦ joined_five (λ r o s k f. IsRunAt g.O.Opener.opens g.O.File.Source.left g.O.File.Source.failures g.O.Replacer.makes g.O.Replacer.puts g.O.Replacer.removes g.O.New.Sink.written g.O.New.Sink.failures g.R.Source.left g.R.Source.failures g.W.Sink.written g.W.Sink.failures g.F.Sink.written g.F.Sink.failures place t c.args.opener.now o c.args.source.now s c.args.sink.now k c.args.errors.now f r) w.match-find_place.ran a.match-open.ran w.match-find_place.opener a.match-open.opener w.match-find_place.source c.args.source.now w.match-find_place.sink c.args.sink.now w.match-find_place.errors a.match-open.errors a.ran-is a.opener-is a.source-is a.sink-is a.errors-is
@@ -80,7 +80,7 @@ returns-clause-named g c = λ other e.
           let t = task_seen w.in-Ok.task in
           let place = place_file t in
           let named = elim w.match-find_place.branch as (λ _. IsNamedAt g.O.Opener.opens g.O.Replacer.makes g.O.Replacer.puts g.O.Replacer.removes place t o w.match-find_place.opener) [
-            | in-Ok-None a ↦ subst (λ x. IsNamedAt g.O.Opener.opens g.O.Replacer.makes g.O.Replacer.puts g.O.Replacer.removes place t o x) (sym a.opener-is) (streams_named g.O.Opener.opens g.O.Replacer.makes g.O.Replacer.puts g.O.Replacer.removes place t o a.run-ran.new.opener (rw a.in-Ok-None.field-0-is at a.in-Ok-None.ensures.place) a.run-ran.ensures.opened)
+            | in-Ok-None a ↦ subst (λ x. IsNamedAt g.O.Opener.opens g.O.Replacer.makes g.O.Replacer.puts g.O.Replacer.removes place t o x) (sym a.opener-is) (streams_named g.O.Opener.opens g.O.Replacer.makes g.O.Replacer.puts g.O.Replacer.removes place t o a.run_from-ran.new.opener (rw a.in-Ok-None.field-0-is at a.in-Ok-None.ensures.place) a.run_from-ran.ensures.opened)
             | in-Err-find_place a ↦ subst (λ x. IsNamedAt g.O.Opener.opens g.O.Replacer.makes g.O.Replacer.puts g.O.Replacer.removes place t o x) (sym a.opener-is) (none_named g.O.Opener.opens g.O.Replacer.makes g.O.Replacer.puts g.O.Replacer.removes t o)
             | in-Ok-Some a ↦ subst (λ x. IsNamedAt g.O.Opener.opens g.O.Replacer.makes g.O.Replacer.puts g.O.Replacer.removes place t o x) (sym a.opener-is)
                 (let is = rw a.in-Ok-Some.field-0-is at a.in-Ok-Some.ensures.place in

@@ -5,7 +5,7 @@ use Rattle.std.specs.Option.{option_map}
 use Rattle.capnp_packed.specs.Sources.{unpack_failures}
 use Rattle.capnp_packed.specs.Unpacking.{unpacked_bytes}
 use Rattle.capnp_schema.specs.Entries.{lists_seen}
-use Rattle.riftcalico_core.specs.Answers.{IsAnswer, IsNoAnswer, answer_blamed}
+use Rattle.riftcalico_core.specs.Answers.{IsAnswer, IsBlamed, IsNoAnswer}
 use Rattle.riftcalico_core.specs.Faults.{task_set_file}
 use Rattle.riftcalico_core.specs.Jobs.{IsJob}
 use Rattle.riftcalico_core.specs.Plans.{Plan, calls_file, compatible_plan}
@@ -107,7 +107,7 @@ returns-in_default-clause-ran g c =
     under_run g.O.Opener.opens g.O.File.Source.left g.O.File.Source.failures g.R.Source.left g.R.Source.failures g.W.Sink.written g.W.Sink.failures g.F.Sink.written g.F.Sink.failures t c.args.opener.now c.read_file.new.opener c.read_file-2.new.opener calls bytes p set c.args.source.now c.args.source.now c.args.sink.now c.put_answer.new.sink c.args.errors.now c.put_answer.new.errors c.put_answer.result planned set_read made
     (job_run g.R.Source.left g.R.Source.failures g.W.Sink.written g.W.Sink.failures g.F.Sink.written g.F.Sink.failures t p set j c.args.source.now c.args.source.now c.args.sink.now c.put_answer.new.sink c.args.errors.now c.put_answer.new.errors c.put_answer.result c.in-Ok-find_task_job.ensures.apart is_job
     (unread_run g.R.Source.left g.R.Source.failures g.W.Sink.written g.W.Sink.failures g.F.Sink.written g.F.Sink.failures (task_messages t) t j c.args.source.now c.args.sink.now c.put_answer.new.sink c.args.errors.now c.put_answer.new.errors c.put_answer.result (way ∙ c.in-Unread.is)
-    (answered_by g.W.Sink.written g.W.Sink.failures g.F.Sink.written g.F.Sink.failures (IsAnswer j []) (IsNoAnswer j []) (answer_blamed j) c.get_answer.result None c.args.sink.now c.put_answer.new.sink c.args.errors.now c.put_answer.new.errors c.put_answer.result c.get_answer.ensures.answer c.get_answer.ensures.refused c.get_answer.ensures.blamed c.put_answer.ensures)))
+    (answered_by g.W.Sink.written g.W.Sink.failures g.F.Sink.written g.F.Sink.failures (IsAnswer j []) (IsNoAnswer j []) (IsBlamed j) c.get_answer.result None c.args.sink.now c.put_answer.new.sink c.args.errors.now c.put_answer.new.errors c.put_answer.result c.get_answer.ensures.answer c.get_answer.ensures.refused c.get_answer.ensures.blamed c.put_answer.ensures)))
 
 pub returns-in_default-clause-opened : goal.returns-in_default-clause-opened
 returns-in_default-clause-opened g c =
@@ -128,7 +128,7 @@ returns-in-Ok-read_all-clause-ran g c =
     let j = c.in-Ok-find_task_job.job in
     let is_job = c.in-Ok-find_task_job.ensures.job in
     let way = sym c.get_way.ensures in
-    let heard = answered_by g.W.Sink.written g.W.Sink.failures g.F.Sink.written g.F.Sink.failures (IsAnswer j c.deref-in-Ok-read_all.result.now) (IsNoAnswer j c.deref-in-Ok-read_all.result.now) (answer_blamed j) c.get_answer-in-Ok-read_all.result None c.args.sink.now c.put_answer-in-Ok-read_all.new.sink c.args.errors.now c.put_answer-in-Ok-read_all.new.errors c.put_answer-in-Ok-read_all.result c.get_answer-in-Ok-read_all.ensures.answer c.get_answer-in-Ok-read_all.ensures.refused c.get_answer-in-Ok-read_all.ensures.blamed c.put_answer-in-Ok-read_all.ensures in
+    let heard = answered_by g.W.Sink.written g.W.Sink.failures g.F.Sink.written g.F.Sink.failures (IsAnswer j c.deref-in-Ok-read_all.result.now) (IsNoAnswer j c.deref-in-Ok-read_all.result.now) (IsBlamed j) c.get_answer-in-Ok-read_all.result None c.args.sink.now c.put_answer-in-Ok-read_all.new.sink c.args.errors.now c.put_answer-in-Ok-read_all.new.errors c.put_answer-in-Ok-read_all.result c.get_answer-in-Ok-read_all.ensures.answer c.get_answer-in-Ok-read_all.ensures.refused c.get_answer-in-Ok-read_all.ensures.blamed c.put_answer-in-Ok-read_all.ensures in
     let answered = rw c.deref-in-Ok-read_all.ensures.value at heard in
     under_run g.O.Opener.opens g.O.File.Source.left g.O.File.Source.failures g.R.Source.left g.R.Source.failures g.W.Sink.written g.W.Sink.failures g.F.Sink.written g.F.Sink.failures t c.args.opener.now c.read_file.new.opener c.read_file-2.new.opener calls bytes p set c.args.source.now c.read_all.new.source c.args.sink.now c.put_answer-in-Ok-read_all.new.sink c.args.errors.now c.put_answer-in-Ok-read_all.new.errors c.put_answer-in-Ok-read_all.result planned set_read made
     (job_run g.R.Source.left g.R.Source.failures g.W.Sink.written g.W.Sink.failures g.F.Sink.written g.F.Sink.failures t p set j c.args.source.now c.read_all.new.source c.args.sink.now c.put_answer-in-Ok-read_all.new.sink c.args.errors.now c.put_answer-in-Ok-read_all.new.errors c.put_answer-in-Ok-read_all.result c.in-Ok-find_task_job.ensures.apart is_job
@@ -232,7 +232,7 @@ returns-in-Unread-clause-ran g c =
     under_run g.O.Opener.opens g.O.File.Source.left g.O.File.Source.failures g.R.Source.left g.R.Source.failures g.W.Sink.written g.W.Sink.failures g.F.Sink.written g.F.Sink.failures t c.args.opener.now c.read_file.new.opener c.read_file-2.new.opener calls bytes p set c.args.source.now c.args.source.now c.args.sink.now c.put_answer-in-Unread.new.sink c.args.errors.now c.put_answer-in-Unread.new.errors c.put_answer-in-Unread.result planned set_read made
     (job_run g.R.Source.left g.R.Source.failures g.W.Sink.written g.W.Sink.failures g.F.Sink.written g.F.Sink.failures t p set j c.args.source.now c.args.source.now c.args.sink.now c.put_answer-in-Unread.new.sink c.args.errors.now c.put_answer-in-Unread.new.errors c.put_answer-in-Unread.result c.in-Ok-find_task_job.ensures.apart is_job
     (unread_run g.R.Source.left g.R.Source.failures g.W.Sink.written g.W.Sink.failures g.F.Sink.written g.F.Sink.failures (task_messages t) t j c.args.source.now c.args.sink.now c.put_answer-in-Unread.new.sink c.args.errors.now c.put_answer-in-Unread.new.errors c.put_answer-in-Unread.result (way ∙ c.in-Unread.is)
-    (answered_by g.W.Sink.written g.W.Sink.failures g.F.Sink.written g.F.Sink.failures (IsAnswer j []) (IsNoAnswer j []) (answer_blamed j) c.answer_whole.result None c.args.sink.now c.put_answer-in-Unread.new.sink c.args.errors.now c.put_answer-in-Unread.new.errors c.put_answer-in-Unread.result
+    (answered_by g.W.Sink.written g.W.Sink.failures g.F.Sink.written g.F.Sink.failures (IsAnswer j []) (IsNoAnswer j []) (IsBlamed j) c.answer_whole.result None c.args.sink.now c.put_answer-in-Unread.new.sink c.args.errors.now c.put_answer-in-Unread.new.errors c.put_answer-in-Unread.result
     (whole_answered c.in-Some.whole set j is_whole c.answer_whole.result c.answer_whole.ensures.answer) (whole_refused c.in-Some.whole set j is_whole c.answer_whole.result c.answer_whole.ensures.refused)
     (whole_blamed c.in-Some.whole set j is_whole c.answer_whole.result c.answer_whole.ensures.blamed) c.put_answer-in-Unread.ensures)))
 

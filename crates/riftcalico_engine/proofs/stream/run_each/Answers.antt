@@ -2,7 +2,7 @@
 use Rattle.std.proofs.Common.{Some, true, arith, ap, inr, refl, ◌∙◌}
 use Rattle.riftcalico_engine.specs.declared.told.Told.TheVariants as told
 use Rattle.riftcalico_words.specs.RequestSeen.{task_seen}
-use Rattle.riftcalico_core.specs.Answers.{IsMessageAnswer, IsNoMessageAnswer, answer_blamed}
+use Rattle.riftcalico_core.specs.Answers.{IsBlamed, IsMessageAnswer, IsNoMessageAnswer}
 use Rattle.riftcalico_engine.proofs.Answered.{answered_by}
 use Rattle.riftcalico_engine.proofs.StreamSteps.{at_next, next_so_far, none_so_far, or_true, quiet_on, stop_end, telling_on, unread_end}
 use Rattle.riftcalico_engine.proofs.stream.run_each.Goals as goal
@@ -50,7 +50,7 @@ returns-in-Ends g c =
     let given = c.deref.result.now in
     let message = rw c.in-Ok-Some.field-0-is at c.in-Ok-Some.ensures.message in
     let read = rw c.reads_texts.ensures at message in
-    let answered = answered_by g.W.Sink.written g.W.Sink.failures g.F.Sink.written g.F.Sink.failures (IsMessageAnswer job given) (IsNoMessageAnswer job given) (answer_blamed job) c.answer_message-answer.result (Some c.in-Some.next)
+    let answered = answered_by g.W.Sink.written g.W.Sink.failures g.F.Sink.written g.F.Sink.failures (IsMessageAnswer job given) (IsNoMessageAnswer job given) (IsBlamed job) c.answer_message-answer.result (Some c.in-Some.next)
     c.loop-next.sink c.put_answer-ran.new.sink c.loop-next.errors c.put_answer-ran.new.errors c.put_answer-ran.result c.answer_message-answer.ensures.answer c.answer_message-answer.ensures.refused c.answer_message-answer.ensures.blamed c.put_answer-ran.ensures in
     record {
       at = c.loop-next.source;
@@ -71,7 +71,7 @@ loop-next-preserved g c =
     let given = c.deref.result.now in
     let message = rw c.in-Ok-Some.field-0-is at c.in-Ok-Some.ensures.message in
     let read = rw c.reads_texts.ensures at message in
-    let answered = answered_by g.W.Sink.written g.W.Sink.failures g.F.Sink.written g.F.Sink.failures (IsMessageAnswer job given) (IsNoMessageAnswer job given) (answer_blamed job) c.answer_message-answer.result (Some c.in-Some.next)
+    let answered = answered_by g.W.Sink.written g.W.Sink.failures g.F.Sink.written g.F.Sink.failures (IsMessageAnswer job given) (IsNoMessageAnswer job given) (IsBlamed job) c.answer_message-answer.result (Some c.in-Some.next)
     c.loop-next.sink c.put_answer-ran.new.sink c.loop-next.errors c.put_answer-ran.new.errors c.put_answer-ran.result c.answer_message-answer.ensures.answer c.answer_message-answer.ensures.refused c.answer_message-answer.ensures.blamed c.put_answer-ran.ensures in
     let task = task_seen c.args.task.now in
     let whole = rw c.deref.ensures.value at answered in
