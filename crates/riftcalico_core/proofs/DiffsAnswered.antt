@@ -1,7 +1,6 @@
 -- What two messages come to, by their roots and the changes between them.
 use Rattle.std.proofs.Common.{ℕ, List, Ok, ap, inl, inr, subst, sym, ◌≡◌, ◌≢◌}
 use Rattle.capnp_device.specs.declared.error.Error.{Error}
-use Rattle.capnp_device.specs.ErrorNumber.{error_number}
 use Rattle.capnp_device.specs.declared.error.ErrorKind.{ErrorKind}
 use Rattle.capnp_diffs.specs.Changes.{IsRecordTold, record_changes}
 use Rattle.capnp_diffs.specs.Found.{AreReady, changes_seen}
@@ -34,18 +33,16 @@ module _ (j : DiffJob) (old new : List ℕ) (has : message_in j.packed j.newer.n
   pub new_rootless : (f : Fault) (e : Error) → IsRootless new e.kind → IsPlainFault f e blamed.Calls → IsNotDiffed j old f
   new_rootless f e cause p = inr (new, has, inr (inl (record { blames = p.blamed; cause = subst (λ (x : Error). IsRootless new x.kind) (sym p.error) cause; note = p.note })))
 
-  -- the structs that two handles stand on are those of the roots, and what refuses them is so of the refusal that tells it
+  -- the structs that two handles stand on are those of the roots, and what refuses them is what is told
   pub not_found : (source target : StructHandle) → schema_of target ≡ j.schema → IsRootStruct old (struct_of (reader_of source)) (struct_levels (reader_of source)) →
-      IsRootStruct new (struct_of (reader_of target)) (struct_levels (reader_of target)) → (k : ErrorKind) → IsRefusal (pair_of source target) k → (f : Fault) → error_number f.error.kind ≡ error_number k → IsPlaceTold j.schema old new k f → IsNotDiffed j old f
-  not_found source target same is_old is_new k cause f number told = inr (
+      IsRootStruct new (struct_of (reader_of target)) (struct_levels (reader_of target)) → (k : ErrorKind) → IsRefusal (pair_of source target) k → (f : Fault) → f.error.kind ≡ k → IsPlaceTold j.schema old new f → IsNotDiffed j old f
+  not_found source target same is_old is_new k cause f is told = inr (
     new,
     has,
     inr (inr (inl (record {
       pair = pair_of source target;
       roots = record { set_is = ap set_of same; brand_is = ap number_of same; is_old = is_old; is_new = is_new };
-      kind = k;
-      cause = cause;
-      number = number;
+      cause = subst (λ (x : ErrorKind). IsRefusal (pair_of source target) x) (sym is) cause;
       told = told;
     }))),
   )

@@ -1,6 +1,5 @@
 -- What is answered where the calls are told that make one message into another: a line of each change, in their order; or why there are none.
-use Rattle.std.specs.Prelude.{ℕ, ◌<◌, ◌≤◌, ◌+◌, ◌-◌, ◌≡◌, ◌⊎◌, List, [], length, true, Ok, Err, string_bytes}
-use Rattle.capnp_device.specs.ErrorNumber.{error_number}
+use Rattle.std.specs.Prelude.{ℕ, ◌<◌, ◌≤◌, ◌+◌, ◌-◌, ◌≡◌, ◌≢◌, ◌⊎◌, List, [], Bool, length, true, Ok, Err, string_bytes}
 use Rattle.capnp_device.specs.declared.error.ErrorKind.{ErrorKind}
 use Rattle.capnp_device.specs.declared.error.ErrorKind.TheVariants as kind
 use Rattle.capnp_diffs.specs.Changes.{IsRecordTold, record_changes}
@@ -11,6 +10,7 @@ use Rattle.capnp_call.specs.declared.calls.Op.{Op}
 use Rattle.capnp_call.specs.declared.calls.Op.TheVariants as op
 use Rattle.capnp_dynamic_readers.specs.declared.dynamic_value.Reader.{Reader as DynamicValue}
 use Rattle.capnp_json.specs.declared.error.JsonError.TheVariants.{Read, TooLarge}
+use Rattle.capnp_patch.specs.Gets.{got_text}
 use Rattle.capnp_queries.specs.Floats.{form_at}
 use Rattle.capnp_records.specs.Call.{PathStep}
 use Rattle.capnp_records.specs.Reading.{reads}
@@ -163,20 +163,26 @@ pub record IsNotUnpacked (j : DiffJob) (f : Fault) : Type 0 where
   pub cause : message_in j.packed j.newer.now ≡ Err f.error.kind
   pub note : string_bytes f.note ≡ []
 
--- A part of one message can't be read, and its place is told, of the older one first; or no place is, and the newer one is blamed for this kind.
-abbrev pub IsPlaceTold : StructSchema → (bytes newer : List ℕ) → ErrorKind → Fault → Type 0
-IsPlaceTold s bytes newer kind f =
-    ((f.blamed ≡ blamed.Input) × IsNotShown s [] bytes f)
-    ⊎ (((f.blamed ≡ blamed.Calls) × IsNotShown s [] newer f) ⊎ ((f.blamed ≡ blamed.Calls) × (f.error.kind ≡ kind) × (string_bytes f.note ≡ [])))
+-- no text of the root is refused with this kind
+abbrev pub IsRefusedElse : StructSchema → (bytes : List ℕ) → ErrorKind → Type 0
+IsRefusedElse s bytes kind = (indented : Bool) → got_text (set_of s) (number_of s) [] indented bytes ≢ Err kind
 
--- no changes are found: what is compared of the two roots refuses it, with the number that is told
+-- the place in the newer message, or none where none of its texts is refused so
+abbrev pub IsNewerTold : StructSchema → (newer : List ℕ) → Fault → Type 0
+IsNewerTold s newer f = IsNotShown s [] newer f ⊎ (IsRefusedElse s newer f.error.kind × (string_bytes f.note ≡ []))
+
+-- A part of the older message can't be read, and its place is told. Or no text of it is refused so, and the newer one is blamed.
+abbrev pub IsPlaceTold : StructSchema → (bytes newer : List ℕ) → Fault → Type 0
+IsPlaceTold s bytes newer f =
+    ((f.blamed ≡ blamed.Input) × IsNotShown s [] bytes f)
+    ⊎ ((f.blamed ≡ blamed.Calls) × IsRefusedElse s bytes f.error.kind × IsNewerTold s newer f)
+
+-- no changes are found: what is compared of the two roots refuses it
 pub record IsNotFound (s : StructSchema) (bytes newer : List ℕ) (f : Fault) : Type 0 where
   pub pair : Pair
   pub roots : AreRoots s bytes newer pair
-  pub kind : ErrorKind
-  pub cause : IsRefusal pair kind
-  pub number : error_number f.error.kind ≡ error_number kind
-  pub told : IsPlaceTold s bytes newer kind f
+  pub cause : IsRefusal pair f.error.kind
+  pub told : IsPlaceTold s bytes newer f
 
 -- a change has no line
 pub record IsOneLineless (j : DiffJob) (bytes : List ℕ) (f : Fault) : Type 0 where

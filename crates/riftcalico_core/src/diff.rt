@@ -1,7 +1,6 @@
 //! The calls that make one message into another, as lines that `patch` reads.
-ghost use Rattle.std.specs.Prelude.{ℕ, [], true, ◌+◌, ◌≡◌, ◌≢◌, ◌≤◌, ◌⊎◌, IfErr, IfOk, IfSome, Ok, length, string_bytes};
+ghost use Rattle.std.specs.Prelude.{ℕ, [], true, ◌+◌, ◌≡◌, ◌≢◌, ◌≤◌, ◌⊎◌, IfErr, IfOk, IfSome, MatchOption, Ok, length, string_bytes};
 ghost use Rattle.capnp_call.specs.Seen.{path_seen};
-ghost use Rattle.capnp_device.specs.ErrorNumber.{error_number};
 ghost use Rattle.capnp_device.specs.declared.error.ErrorKind.TheVariants.{OutOfMemory};
 ghost use Rattle.capnp_diffs.specs.declared.change.Change.{Change as FoundChange};
 ghost use Rattle.capnp_dynamic_readers.specs.Handles.{reader_of, schema_of};
@@ -11,7 +10,7 @@ ghost use Rattle.capnp_schema.specs.declared.schema.structs.StructSchema.{Struct
 ghost use Rattle.capnp_wire.specs.Standing.{struct_levels, struct_of};
 ghost use Rattle.riftcalico_core.specs.AllFaults.{part_note};
 ghost use Rattle.riftcalico_core.specs.ChangeLines.{wordless_line};
-ghost use Rattle.riftcalico_core.specs.Diffs.{HasRootRecord, IsDiffAnswer, IsLine, IsLineless, IsNotDiffed, IsPlaceTold, IsRootStruct, IsRootless, IsToldOrPut, path_of};
+ghost use Rattle.riftcalico_core.specs.Diffs.{HasRootRecord, IsDiffAnswer, IsLine, IsLineless, IsNotDiffed, IsPlaceTold, IsRefusedElse, IsRootStruct, IsRootless, IsToldOrPut, path_of};
 ghost use Rattle.riftcalico_core.specs.Inputs.{message_in};
 ghost use Rattle.riftcalico_core.specs.Lines.{AreLinesOf, IsFirstOf};
 ghost use Rattle.riftcalico_core.specs.Shown.{IsNotShown};
@@ -25,6 +24,7 @@ use crate::change_line::{NoWord, get_change_path, get_line};
 use crate::fault::{Blamed, Fault, Faulty, blame, get_fault};
 use crate::get::{add_line, find_fault};
 use crate::job::DiffJob;
+use crate::kinds::is_same_kind;
 use crate::note::get_part_note;
 use crate::place::tell_path;
 use capnp_call::calls::Step;
@@ -77,7 +77,7 @@ fn blame_newer(fault: Fault) -> Fault
     }
 }
 
-/// The refusal of a message's first part that can't be read, if it has the number of this kind.
+/// The refusal of a message's first part that can't be read, if it is of this kind.
 fn find_kind(
     alloc: Global,
     schema: StructSchema<'_>,
@@ -85,14 +85,14 @@ fn find_kind(
     kind: ErrorKind,
 ) -> Result<Option<Fault>>
     requires { IsStruct schema }
-    ensures found { IfOk result (λ found. IfSome found (IsNotShown schema.entry [] message.now)) }
-    ensures number { IfOk result (λ found. IfSome found (λ f. error_number f.error.kind ≡ error_number kind)) }
+    ensures found { IfOk result (λ found. MatchOption found (IsRefusedElse schema.entry message.now kind)
+        (λ f. IsNotShown schema.entry [] message.now f × (f.error.kind ≡ kind))) }
     ensures blamed { IfOk result (λ found. IfSome found (λ f. f.blamed ≡ Input)) }
     ensures memory { IfErr result (λ e. e.kind ≡ OutOfMemory) }
 {
     match find_fault(alloc, schema, &[], message)? {
         Some(fault) => {
-            if fault.error.kind.number() == kind.number() {
+            if is_same_kind(fault.error.kind, kind) {
                 Ok(Some(fault))
             } else {
                 Ok(None)
@@ -112,8 +112,8 @@ fn explain_changes(
     error: Error,
 ) -> Fault
     requires { IsStruct schema }
-    ensures told { result.error.kind ≢ OutOfMemory → IsPlaceTold schema.entry old.now new.now error.kind result }
-    ensures number { result.error.kind ≢ OutOfMemory → error_number result.error.kind ≡ error_number error.kind }
+    ensures told { result.error.kind ≢ OutOfMemory → IsPlaceTold schema.entry old.now new.now result }
+    ensures kind { result.error.kind ≢ OutOfMemory → result.error.kind ≡ error.kind }
     ensures blamed { (result.blamed ≡ Input) ⊎ (result.blamed ≡ Calls) }
 {
     if error.kind == ErrorKind::OutOfMemory {

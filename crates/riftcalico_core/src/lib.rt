@@ -17,6 +17,7 @@ mod get;
 pub mod job;
 mod json;
 mod json_values;
+mod kinds;
 pub mod laws;
 pub mod names;
 mod near;

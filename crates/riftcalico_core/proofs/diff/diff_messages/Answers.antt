@@ -9,7 +9,7 @@ use Rattle.riftcalico_core.proofs.diff.diff_messages.Goals as goal
 pub returns-in-Err-find_changes-clause-refused : goal.returns-in-Err-find_changes-clause-refused
 returns-in-Err-find_changes-clause-refused c = λ memory.
     not_found c.args.job.now c.args.old.now c.args.new.now c.requires.newer c.in-Ok.root c.in-Ok-read_root.root c.in-Ok-read_root.ensures.schema c.in-Ok.ensures.root c.in-Ok-read_root.ensures.root
-    c.in-Err-find_changes.error.kind c.in-Err-find_changes.ensures.refused c.explain_changes.result (c.explain_changes.ensures.number memory) (c.explain_changes.ensures.told memory)
+    c.in-Err-find_changes.error.kind c.in-Err-find_changes.ensures.refused c.explain_changes.result (c.explain_changes.ensures.kind memory) (c.explain_changes.ensures.told memory)
 
 pub returns-in-Ok-answer_changes-clause-answer : goal.returns-in-Ok-answer_changes-clause-answer
 returns-in-Ok-answer_changes-clause-answer c =
