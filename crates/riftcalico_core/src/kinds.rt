@@ -3,7 +3,7 @@ ghost use Rattle.std.specs.Prelude.{false, true, ◌≡◌, ◌≢◌};
 ghost use Rattle.capnp_device.specs.declared.error.ErrorKind.TheVariants.{Schema};
 ghost use Rattle.riftcalico_core.specs.Steps.Kinds.{is_rule};
 
-use capnp_device::error::{ErrorKind, SchemaTable};
+use capnp_wire::error::{ErrorKind, SchemaTable};
 
 /// Whether a kind is that of a broken rule of schemas.
 fn is_rule(kind: ErrorKind) -> bool
