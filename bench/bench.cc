@@ -1,5 +1,6 @@
 // Times this library and the C++ library side by side and prints one table. Its words are the folder of schema.capnp, one for
 // large files, our two programs, and the two that cargo built, where it is there.
+#include "diffs.h"
 #include "documents.h"
 #include "json.h"
 #include "prints.h"
@@ -39,5 +40,6 @@ int main(int count, char **words) {
   json::add_rows(table);
   program::OurProgram shows{words[3], HAS_CARGO ? words[5] : ""}, patches{words[4], HAS_CARGO ? words[6] : ""};
   program::add_rows(table, file.getNested("Lists").asStruct(), words[1], words[2], shows, patches);
+  diffs::add_rows(table, words[2], patches);
   return table.status();
 }

@@ -32,10 +32,12 @@ usage: riftcalico show [--set FILE] [--packed] [--limit BYTES] [--each [--keep-g
        riftcalico compatible [--quiet] [--breaking-only] [--both] [--limit BYTES] OLD NEW [NAME]
        riftcalico diff [--set FILE] [--packed] [--limit BYTES] NAME OLD NEW";
 
-/// The only paths that have a file: of a set and of calls.
+/// The only paths that have a file: of a set and of calls, and one that holds what standard input does.
 const SET: &str = "set";
 
 const CALLS: &str = "calls";
+
+const MESSAGE: &str = "message";
 
 /// A message of which nothing is read.
 pub(crate) const EMPTY_ROOT: [u8; 16] = [0, 0, 0, 0, 1, 0, 0, 0, 0, 0, 0, 0, 0, 0, 0, 0];
@@ -57,16 +59,17 @@ pub(crate) struct Setting<'a> {
     pub call: usize,
 }
 
-/// Opens two files in memory.
+/// Opens files in memory.
 #[derive(Drop)]
-struct TwoFiles<'a> {
+struct SomeFiles<'a> {
     set: &'a [u8],
     calls: &'a [u8],
+    message: &'a [u8],
     slow: bool,
     failing: Option<u64>,
 }
 
-impl<'a> Opener for TwoFiles<'a> {
+impl<'a> Opener for SomeFiles<'a> {
     type File = MemorySource<'a>;
 
     ghost opens = { λ _ _ _ _. ⊤ };
@@ -75,6 +78,7 @@ impl<'a> Opener for TwoFiles<'a> {
         let bytes = match path {
             SET => self.set,
             CALLS => self.calls,
+            MESSAGE => self.message,
             _ => return Err(DeviceFault),
         };
         Ok(MemorySource::new(bytes, chunk(self.slow), self.failing))
@@ -82,7 +86,7 @@ impl<'a> Opener for TwoFiles<'a> {
 }
 
 /// No file can be made beside them.
-impl Replacer for TwoFiles<'_> {
+impl Replacer for SomeFiles<'_> {
     type New = MemorySink;
 
     ghost makes = { λ _ _ _ _ _. ⊤ };
@@ -154,9 +158,10 @@ pub(crate) fn answered(
 /// What comes of a setting.
 fn see_run(alloc: Global, on: &Setting<'_>) -> Result<String, Fail> {
     let words = words_of(alloc, on.words)?;
-    let mut opener = TwoFiles {
+    let mut opener = SomeFiles {
         set: on.set,
         calls: on.calls,
+        message: on.bytes,
         slow: on.slow,
         failing: failing(on, "file"),
     };
