@@ -1,5 +1,5 @@
 -- Each text of what is written is read as that, but for its places.
-use Rattle.std.proofs.Common.{◌≡◌, ℕ, zero, suc, ◌-◌, ◌*◌, ◌<◌, ◌≤◌, List, [], ◌∷◌, ◌++◌, inl, inr, append_assoc, length, length-append, replicate, Bool, true, false, None, Ok, Some, refl, ap, sym, ◌∙◌, subst, arith}
+use Rattle.std.proofs.Common.{◌≡◌, ℕ, zero, suc, ◌-◌, ◌*◌, ◌<◌, ◌≤◌, List, [], ◌∷◌, ◌++◌, inl, inr, append_assoc, append-nil, length, length-append, replicate, Bool, true, false, None, Ok, Some, refl, ap, sym, ◌∙◌, subst, arith}
 use Rattle.std.specs.Prelude.{⊤}
 use Rattle.capnp_json_text.specs.Readings.{after_blanks}
 use Rattle.capnp_records.specs.Text.{Layout, deeper, line, separator}
@@ -12,7 +12,7 @@ use Rattle.capnp_value_texts.specs.declared.parts.Bracket.{Bracket}
 use Rattle.capnp_value_texts.specs.declared.parts.Bracket.TheVariants.{Round, Square}
 use Rattle.capnp_value_texts.proofs.Grammar.{parts_end, parts_more, written_is}
 use Rattle.capnp_value_texts.proofs.LinesRead.{Begins, begins_on, front_longer, leaf_reads, name_reads, named_longer, no_blanks, unclosed}
-use Rattle.capnp_value_laws.specs.Texts.{AreAlike, AreFirst, AreMore, ArePartsAlike, IsSameName, IsTextOf}
+use Rattle.capnp_value_laws.specs.Texts.{AreAlike, AreFirst, AreMore, ArePartsAlike, IsSameName, IsTextOf, TextsAreRead}
 
 -- ---- blanks ----
 
@@ -127,3 +127,81 @@ parts_read levels whole n at k place name w (Part other given x ps) value more r
     ∙ (comma_reads (deeper at) k whole (name_on k given (more_is.0 ++ more_is.1)) rest (subst Begins (sym (named_joined k given more_is.0 more_is.1 rest)) begins)
     ∙ ap (λ xs. Ok (true, xs)) (named_joined k given more_is.0 more_is.1 rest))))
     ∙ ap (read_as (with_part (named, read.0))) others.2)
+
+-- ---- brackets ----
+
+comma_longer : (at : Layout) (xs : List ℕ) → length xs < length (separator at false ++ xs)
+comma_longer None xs = omega arith
+comma_longer (Some n) xs = omega (arith, length-append (replicate (2 * n) 32) xs)
+
+more_counted : (at : Layout) (k : Bracket) (ps : Parts) (text : List ℕ) → AreMore at k ps text → count ps ≤ length text
+more_counted at k NoPart text is = omega arith
+more_counted at k (Part place name w ps) text is =
+    let longer = comma_longer (deeper at) (name_on k name (is.0 ++ is.1)) in
+    let same : length text ≡ length (separator (deeper at) false ++ name_on k name (is.0 ++ is.1)) = ap length is.4 in
+    omega (arith, longer, same, named_longer k name (is.0 ++ is.1), front_longer is.0 is.1, more_counted at k ps is.1 is.3)
+
+abbrev Held : (levels whole : ℕ) → Bracket → Parts → List ℕ → List ℕ → Type 0
+Held levels whole k ps text rest = (qs : Parts) × ArePartsAlike k ps qs × (held_at (written_within levels whole) k whole (after_blanks (text ++ rest)) ≡ Ok (qs, rest))
+
+closed_at : (levels whole : ℕ) (k : Bracket) (rest : List ℕ) → held_at (written_within levels whole) k whole (after_blanks (closing k ∷ rest)) ≡ Ok (NoPart, rest)
+closed_at levels whole Round rest = refl
+closed_at levels whole Square rest = refl
+
+none_held : (levels whole : ℕ) (at : Layout) (k : Bracket) (text rest : List ℕ) → AreFirst at k NoPart text → Held levels whole k NoPart text rest
+none_held levels whole at k text rest (inl is) = (NoPart, tt, ap (λ xs. held_at (written_within levels whole) k whole (after_blanks (xs ++ rest))) is ∙ closed_at levels whole k rest)
+none_held levels whole at k text rest (inr is) =
+    (NoPart, tt,
+    ap (λ xs. held_at (written_within levels whole) k whole (after_blanks (xs ++ rest))) is
+    ∙ (ap (λ xs. held_at (written_within levels whole) k whole (after_blanks xs)) (append_assoc (line at) (closing k ∷ []) rest)
+    ∙ (ap (held_at (written_within levels whole) k whole) (line_passes at (closing k ∷ rest)) ∙ closed_at levels whole k rest)))
+
+held_by : (levels whole : ℕ) (k : Bracket) (bs : List ℕ) (ps : Parts) (rest : List ℕ) → Begins bs → parts_within (part_at (written_within levels whole) k whole) (suc (length bs)) bs ≡ Ok (ps, rest)
+    → held_at (written_within levels whole) k whole (after_blanks bs) ≡ Ok (ps, rest)
+held_by levels whole k [] ps rest begins read = absurd (omega (arith, begins.some))
+held_by levels whole k (b ∷ bs) ps rest begins read = ap (held_at (written_within levels whole) k whole) (no_blanks (b ∷ bs) begins) ∙ rw (unclosed k b begins.first) read
+
+held_reads : (levels whole : ℕ) (at : Layout) (k : Bracket) (ps : Parts) (text rest : List ℕ) → HaveLines levels k ps → AllRead levels whole ps → AreFirst at k ps text → Held levels whole k ps text rest
+held_reads levels whole at k NoPart text rest h reads is = none_held levels whole at k text rest is
+held_reads levels whole at k (Part place name w ps) text rest h reads is =
+    let bs = name_on k name (is.0 ++ (is.1 ++ rest)) in
+    let fewer : count ps < suc (length bs) =
+        omega (arith, named_longer k name (is.0 ++ (is.1 ++ rest)), front_longer is.0 (is.1 ++ rest), length-append is.1 rest, more_counted at k ps is.1 is.3) in
+    let read = parts_read levels whole (suc (length bs)) at k place name w ps is.0 is.1 rest h reads fewer is.2 is.3 in
+    (read.0, read.1,
+    ap (λ xs. held_at (written_within levels whole) k whole (after_blanks (xs ++ rest))) is.4
+    ∙ (ap (λ xs. held_at (written_within levels whole) k whole (after_blanks xs)) (append_assoc (line (deeper at)) (name_on k name (is.0 ++ is.1)) rest)
+    ∙ (ap (held_at (written_within levels whole) k whole) (line_passes (deeper at) (name_on k name (is.0 ++ is.1) ++ rest))
+    ∙ (ap (λ xs. held_at (written_within levels whole) k whole (after_blanks xs)) (named_joined k name is.0 is.1 rest)
+    ∙ held_by levels whole k bs read.0 rest (named_begins k name (is.0 ++ (is.1 ++ rest)) h.0 (text_begins levels (deeper at) w is.0 (is.1 ++ rest) h.1 is.2)) read.2))))
+
+-- ---- all ----
+
+mutual
+  value_reads : (w : Written) (levels whole : ℕ) (at : Layout) (text : List ℕ) → HasLine levels w → IsTextOf at w text → Reads levels whole w text
+  value_reads (Leaf place bs) levels whole at text h is rest stops =
+      (Leaf (whole - length (bs ++ rest)) bs, refl, ap (λ xs. written_within levels whole (xs ++ rest)) is ∙ leaf_reads levels whole bs rest h stops)
+  value_reads (Fields place ps) zero whole at text h is rest stops = absurd h
+  value_reads (Items place ps) zero whole at text h is rest stops = absurd h
+  value_reads (Fields place ps) (suc levels) whole at text h is rest stops =
+      let held = held_reads levels whole at Round ps is.0 rest h (all_read ps levels whole Round h) is.1 in
+      (Fields (whole - length (40 ∷ (is.0 ++ rest))) held.0, held.1,
+      ap (λ xs. written_within (suc levels) whole (xs ++ rest)) is.2
+      ∙ (written_is (suc levels) whole (40 ∷ (is.0 ++ rest)) ∙ ap (read_as (bracketed_read Round (whole - length (40 ∷ (is.0 ++ rest))))) held.2))
+  value_reads (Items place ps) (suc levels) whole at text h is rest stops =
+      let held = held_reads levels whole at Square ps is.0 rest h (all_read ps levels whole Square h) is.1 in
+      (Items (whole - length (91 ∷ (is.0 ++ rest))) held.0, held.1,
+      ap (λ xs. written_within (suc levels) whole (xs ++ rest)) is.2
+      ∙ (written_is (suc levels) whole (91 ∷ (is.0 ++ rest)) ∙ ap (read_as (bracketed_read Square (whole - length (91 ∷ (is.0 ++ rest))))) held.2))
+
+  all_read : (ps : Parts) (levels whole : ℕ) (k : Bracket) → HaveLines levels k ps → AllRead levels whole ps
+  all_read NoPart levels whole k h = tt
+  all_read (Part place name w ps) levels whole k h = (λ at text is. value_reads w levels whole at text h.1 is, all_read ps levels whole k h.2)
+
+pub texts_read : TextsAreRead
+texts_read at w text h is =
+    let read = value_reads w 64 (length text) at text h is [] refl in
+    let begins : Begins text = subst Begins (append-nil text) (text_begins 64 at w text [] h is) in
+    (read.0, read.1,
+    ap (λ xs. read_then (written_within 64 (length text) xs) (λ v. at_end (length text) v.0 (after_blanks v.1))) (no_blanks text begins ∙ sym (append-nil text))
+    ∙ ap (λ r. read_then r (λ v. at_end (length text) v.0 (after_blanks v.1))) read.2)
