@@ -1,7 +1,12 @@
 pub mod CallsLead
+pub mod Leaves
 pub mod LeavesMade
+pub mod LinesPrinted
 pub mod NewRecords
 pub mod PartsMade
 pub mod PlacedCalls
 pub mod PlacesMade
+pub mod ReadBack
 pub mod RecordsMade
+pub mod RowsPrinted
+pub mod TextsPrinted

@@ -23,6 +23,14 @@ pub record IsMade (set : Schemas) (s : SchemaType) (here : Value) (r : Read (Lis
   pub read : r ≡ Ok calls
   pub leads : CallsLead set s here calls w
 
+-- so many parts are not too many
+pub few_read : {A : Type 0} (place count : ℕ) (r : Read A) → count ≤ most_parts → counted place count r ≡ r
+few_read place count r few = counts (nat_lt most_parts count) (le-ltb most_parts count few)
+  where
+    counts : (b : Bool) → b ≡ false → cond b (refused SizePastFormat place) r ≡ r
+    counts true e = absurd (true≢false e)
+    counts false e = refl
+
 module _ (set : Schemas) (s : SchemaType) where
   pub made_both : (here m w : Value) (r q : Read (List Call)) → IsMade set s here r m → IsMade set s m q w → IsMade set s here (both_calls r q) w
   made_both here m w r q first second = record {
@@ -43,13 +51,9 @@ module _ (set : Schemas) (s : SchemaType) where
       CallsLead set s here first (put p) → Nest set s u step put → IsSolid p → IsMade set u p r q → IsMade set s here (held_calls place count step first r) (put q)
   made_held u step put here p q place count first r few begun nest solid made = record {
     calls = first ++ all_behind step made.calls;
-    read = few_counted (nat_lt most_parts count) (le-ltb most_parts count few) ∙ ap (read_as (λ cs. first ++ all_behind step cs)) made.read;
+    read = few_read place count (read_as (λ cs. first ++ all_behind step cs) r) few ∙ ap (read_as (λ cs. first ++ all_behind step cs)) made.read;
     leads = lead_both set s here (put p) (put q) first (all_behind step made.calls) begun (lead_behind set s u step put nest made.calls p q solid made.leads);
   }
-    where
-      few_counted : (b : Bool) → b ≡ false → cond b (refused SizePastFormat place) (read_as (λ cs. first ++ all_behind step cs) r) ≡ read_as (λ cs. first ++ all_behind step cs) r
-      few_counted true e = absurd (true≢false e)
-      few_counted false e = refl
 
 -- ---- what is given ----
 

@@ -56,7 +56,7 @@ inside_joined (MoreValues d ds) v vs = let h = inside_joined ds v vs in omega (a
 
 -- ---- cases ----
 
-by_kind : {S G R : Type 0} (k : FieldKind) → (is_group_field k ≡ false → S → R) → (is_group_field k ≡ true → G → R) → ByKind k S G → R
+pub by_kind : {S G R : Type 0} (k : FieldKind) → (is_group_field k ≡ false → S → R) → (is_group_field k ≡ true → G → R) → ByKind k S G → R
 by_kind (Slot offset d) slot group told = slot refl told
 by_kind (Group node) slot group told = group refl told
 
@@ -336,7 +336,7 @@ list_made set s e vs step stands here put few can made =
 module _ (read : PrintedValuesAreRead) (set : Schemas) (few : (b : ℕ) → length (fields_of set b) ≤ 65535) where
   mutual
     -- a value of a type, where a place takes it
-    value_made : (v : Value) (t : SchemaType) (levels : ℕ) (s : SchemaType) (step : PathStep) (stands : Bool) (here : Value) (put : Value → Value) → IsWhole set levels t v → CanMake set s step t stands here put →
+    pub value_made : (v : Value) (t : SchemaType) (levels : ℕ) (s : SchemaType) (step : PathStep) (stands : Bool) (here : Value) (put : Value → Value) → IsWhole set levels t v → CanMake set s step t stands here put →
         IsMade set s here (value_calls set (printed_value set t v) (plain_target step t stands)) (put v)
     value_made (value.Struct r) (StructType b g) (suc levels) s step stands here put whole can =
         held_made set s b g true r levels step stands here put whole (can.begins b g refl) (can.nest tt) (record_made r levels b g true whole)
@@ -345,7 +345,7 @@ module _ (read : PrintedValuesAreRead) (set : Schemas) (few : (b : ℕ) → leng
     value_made v t levels s step stands here put whole can = made_leaf read set v t s step stands here put (bare_whole set levels t v tt whole) can
 
     -- a group, at its place in a record
-    group_made : (v : Value) (t : SchemaType) (levels b g i : ℕ) (k : Bool) (r : Record) → (field_at set b i).type ≡ t → i < length (fields_of set b) → HasPlace r (field_at set b i).field i → is_group_field (field_at set b i).field.kind ≡ true →
+    pub group_made : (v : Value) (t : SchemaType) (levels b g i : ℕ) (k : Bool) (r : Record) → (field_at set b i).type ≡ t → i < length (fields_of set b) → HasPlace r (field_at set b i).field i → is_group_field (field_at set b i).field.kind ≡ true →
         IsWholeGroup set levels t v → IsMade set (StructType b g) (wrap k r) (value_calls set (printed_value set t v) (plain_target (FieldNumber i) t false)) (wrap k (with_part r (field_at set b i).field i v))
     group_made (value.Group q) (StructType c h) (suc levels) b g i k r is inside place group whole =
         held_made set (StructType b g) c h false q levels (FieldNumber i) false (wrap k r) (λ x. wrap k (with_part r (field_at set b i).field i x)) whole
@@ -416,7 +416,17 @@ module _ (read : PrintedValuesAreRead) (set : Schemas) (few : (b : ℕ) → leng
         (λ unshown has. subst (λ q. IsPendingPart set b g k (part_if q f.field.name (printed_value set f.type v)) i (union set b) (Active i v) []) (sym unshown) (first_new set b i v whole.0 has.0 has.1))
         whole.2
 
-    record_made : (q : Record) (levels b g : ℕ) (k : Bool) → IsWholeRecord set levels b q →
+    pub record_made : (q : Record) (levels b g : ℕ) (k : Bool) → IsWholeRecord set levels b q →
         IsMade set (StructType b g) (wrap k (default_record set Endless b)) (parts_calls set (printed_record set b q) (InStruct b) 0 []) (wrap k q)
     record_made (value.Parts vs w) levels b g k whole =
         fields_made vs (non_union_parts (part set) (fields_of set b)) NoValues (union set b) w (printed_member set b w) levels b g k 0 [] whole.1 (fields_new set b) (union_made w levels b g k whole.2) (λ mark h small. refl)
+
+  -- a value of a field, in any record with a place for it
+  pub field_made : (v : Value) (levels b g i : ℕ) (k : Bool) (r : Record) → i < length (fields_of set b) → HasPlace r (field_at set b i).field i → is_float (field_at set b i) ≡ false →
+      ByKind (field_at set b i).field.kind (IsWhole set levels (field_at set b i).type v) (IsWholeGroup set levels (field_at set b i).type v) →
+      IsMade set (StructType b g) (wrap k r) (value_calls set (printed_value set (field_at set b i).type v) (field_target (field_at set b i) i)) (wrap k (with_part r (field_at set b i).field i v))
+  field_made v levels b g i k r inside place floats whole =
+      part_made set b g k i r v floats (by_kind (field_at set b i).field.kind
+      (λ slot held. value_made v (field_at set b i).type levels (StructType b g) (FieldNumber i) false (wrap k r) (λ y. wrap k (with_part r (field_at set b i).field i y)) held (field_can set b g i k r inside slot place))
+      (λ group held. group_made v (field_at set b i).type levels b g i k r refl inside place group held)
+      whole)

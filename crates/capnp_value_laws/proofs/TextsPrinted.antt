@@ -146,7 +146,7 @@ group_is_not set zero VoidType r h = h.0
 group_is_not set (suc levels) VoidType r h = h.0
 group_is_not set levels t r h = h.0
 
-slot_part : (set : Schemas) (inner : Inner) (d : SchemaValue) (levels : ℕ) (t : SchemaType) (v : Value) → IsWhole set levels t v → part_text set inner None d t v ≡ inner None t v
+pub slot_part : (set : Schemas) (inner : Inner) (d : SchemaValue) (levels : ℕ) (t : SchemaType) (v : Value) → IsWhole set levels t v → part_text set inner None d t v ≡ inner None t v
 slot_part set inner d levels t (value.Group r) h = absurd (group_is_not set levels t r h)
 slot_part set inner d levels t (value.Missing l) h = absurd (missing_is_not set levels t l h)
 slot_part set inner d levels t v h = refl
@@ -239,7 +239,7 @@ module _ (set : Schemas) where
     value_said zero t value.Void n k h = absurd h
     value_said levels t v n k h = ap (λ (text : Inner). text None t v) (within_is set n) ∙ leaf_said set (inner_of set n) t v h
 
-    group_said : (levels : ℕ) (t : SchemaType) (v : Value) (d : SchemaValue) (n : ℕ) → levels ≤ n → IsWholeGroup set levels t v
+    pub group_said : (levels : ℕ) (t : SchemaType) (v : Value) (d : SchemaValue) (n : ℕ) → levels ≤ n → IsWholeGroup set levels t v
         → part_text set (text_within set n) None d t v ≡ said_text (line_on (printed_value set t v) [])
     group_said (suc levels) (StructType b g) (value.Group r) d n k h = record_said levels b r n (omega (arith, k)) h
     group_said levels t v d n k h = absurd h
