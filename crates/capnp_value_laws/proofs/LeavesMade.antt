@@ -1,13 +1,8 @@
 -- The call of what is printed of a leaf, and what it gives.
 use Rattle.std.specs.Prelude.{⊤}
 use Rattle.std.proofs.Common.{pos, negsuc, decimal, codes, flat_map, slice_get, ◌≡◌, ℕ, zero, suc, ◌<◌, List, [], ◌∷◌, ◌++◌, ◌==◌, Bool, true, false, cond, None, Ok, refl, ap, sym, ◌∙◌, arith}
-use Rattle.std.specs.List.{AllByRecursion, list_all}
-use Rattle.std.specs.Char.{is_ascii}
 use Rattle.std.specs.Fmt.{debug_escape, signed_decimal}
-use Rattle.std.specs.Str.{IsAscii}
 use Rattle.std.proofs.lemmas.Bool.{eq-eqb, true≢false}
-use Rattle.std.proofs.lemmas.Bool.Decides.{nat_tests}
-use Rattle.std.proofs.lemmas.Str.{IsUtf8-from_ascii, is_utf8-from_IsUtf8}
 use Rattle.capnp_device.specs.declared.error.ErrorKind.TheVariants.{TypeMismatch}
 use Rattle.capnp_schema.specs.Schema.{Schemas}
 use Rattle.capnp_schema.specs.Types.{AnyPointerType, BoolType, DataType, EnumType, IntType, ListType, SchemaType, StructType, TextType, UIntType, VoidType}
@@ -23,35 +18,12 @@ use Rattle.capnp_words.specs.Values.{value_by_word}
 use Rattle.capnp_diffs.specs.Laws.{Brings, IsValueGiven}
 use Rattle.capnp_value_texts.specs.Calls.{Target, at_place, one_call, set_call, source_taken, value_calls}
 use Rattle.capnp_value_texts.specs.Errors.{read_as}
+use Rattle.capnp_value_texts.proofs.LeavesSet.{quoted_ascii, unmarked}
 use Rattle.capnp_value_laws.specs.Trees.{printed_value, quoted_bytes}
 
 -- a place whose type's numbers are none of floats
 abbrev pub plain_target : PathStep → SchemaType → (stands : Bool) → Target
 plain_target step t stands = record { step = step; type = t; floats = false; stands = stands }
-
-unmarked : (set : Schemas) (t : SchemaType) (bs : List ℕ) → marked_value_by_word set false t bs ≡ value_by_word set t bs
-unmarked set VoidType bs = refl
-unmarked set BoolType bs = refl
-unmarked set (IntType bytes) bs = refl
-unmarked set (UIntType bytes) bs = refl
-unmarked set (EnumType e) bs = refl
-unmarked set TextType bs = refl
-unmarked set DataType bs = refl
-unmarked set (StructType b g) bs = refl
-unmarked set (ListType e) bs = refl
-unmarked set AnyPointerType bs = refl
-
-all_ascii : (bs : List ℕ) → AllByRecursion (λ b. is_ascii b ≡ true) bs → list_all is_ascii bs ≡ true
-all_ascii [] h = refl
-all_ascii (b ∷ bs) h = rw (h.0, all_ascii bs h.1) refl
-
-ascii_at : (bs : List ℕ) → AllByRecursion (λ b. is_ascii b ≡ true) bs → IsAscii bs
-ascii_at [] h i = omega arith
-ascii_at (b ∷ bs) h zero = grind (arith, nat_tests, h.0)
-ascii_at (b ∷ bs) h (suc i) = ascii_at bs h.1 i
-
-quoted_ascii : (bs : List ℕ) → AllByRecursion (λ b. is_ascii b ≡ true) bs → quoted_text bs ≡ said_text (quoted_bytes bs)
-quoted_ascii bs h = rw (is_utf8-from_IsUtf8 bs (IsUtf8-from_ascii bs (ascii_at bs h)), quoted_text) (rw (all_ascii bs h) refl)
 
 module _ (read : PrintedValuesAreRead) (set : Schemas) (step : PathStep) (stands : Bool) where
   -- by the bytes that are printed

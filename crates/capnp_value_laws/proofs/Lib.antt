@@ -1,10 +1,11 @@
+pub mod CallsAlike
 pub mod CallsLead
 pub mod Leaves
 pub mod LeavesMade
+pub mod LineRead
 pub mod LinesPrinted
 pub mod NewRecords
 pub mod PartsMade
-pub mod PlacedCalls
 pub mod PlacesMade
 pub mod ReadBack
 pub mod RecordsMade

@@ -12,23 +12,22 @@ use Rattle.capnp_records.specs.Record as value
 use Rattle.capnp_records.specs.Record.{Endless, Record, Value}
 use Rattle.capnp_records.specs.Run.{root_type}
 use Rattle.capnp_records.specs.Step.{is_group_field}
-use Rattle.capnp_records.specs.Text.{said_text, text_of, text_within}
+use Rattle.capnp_records.specs.Text.{said_text, text_of}
 use Rattle.capnp_json_fields.specs.Marks.{is_float}
 use Rattle.capnp_words.specs.Laws.{PrintedValuesAreRead}
 use Rattle.capnp_diffs.proofs.Walked.{HasPlace as HasFieldPlace}
 use Rattle.capnp_value_texts.specs.Calls.{InStruct, field_of_text, field_target, most_parts, part_count, parts_calls, root_calls, root_of_text, value_calls}
 use Rattle.capnp_value_texts.specs.Errors.{read_then}
-use Rattle.capnp_value_texts.specs.Lines.{HasLine, LinesAreRead, line_on, placed}
+use Rattle.capnp_value_texts.specs.Lines.{LinesAreRead}
 use Rattle.capnp_value_texts.specs.Written.{Fields, Written, most_levels, written}
 use Rattle.capnp_value_laws.specs.Laws.{HasPlace, Lead, PrintedFieldsAreMade, PrintedRecordsAreMade}
 use Rattle.capnp_value_laws.specs.Trees.{printed_record, printed_value}
 use Rattle.capnp_value_laws.specs.Whole.{ByKind, Either, IsWhole, IsWholeGroup, IsWholeRecord}
+use Rattle.capnp_value_laws.proofs.CallsAlike.{alike_calls, alike_root}
 use Rattle.capnp_value_laws.proofs.CallsLead.{CallsLead, run_done}
-use Rattle.capnp_value_laws.proofs.LinesPrinted.{group_has, value_has}
+use Rattle.capnp_value_laws.proofs.LineRead.{IsReadAs, group_read, text_read}
 use Rattle.capnp_value_laws.proofs.PartsMade.{few_read}
-use Rattle.capnp_value_laws.proofs.PlacedCalls.{placed_calls, placed_root}
 use Rattle.capnp_value_laws.proofs.RecordsMade.{by_kind, field_made, record_count, record_made}
-use Rattle.capnp_value_laws.proofs.TextsPrinted.{group_said, slot_part, value_said}
 
 struct_same : {r q : Record} → value.Struct r ≡ value.Struct q → r ≡ q
 struct_same e = cc
@@ -55,35 +54,31 @@ place_of (value.Parts vs u) f i place = go (is_member f) refl place
 module _ (lines : LinesAreRead) (read : PrintedValuesAreRead) where
   pub records_made : PrintedRecordsAreMade
   records_made set b r accepted whole =
+      let (text, said, w, is, alike) = text_read lines set (root_type set b) (value.Struct r) whole in
       let ps = printed_record set b r in
-      let w : Written = Fields 0 ps in
-      let text : List ℕ = line_on w [] in
       let made = record_made read set (few_fields_of set accepted.rule3) r 63 b (brand_at set b).node true whole in
       (
         text,
-        value_said set most_levels (root_type set b) (value.Struct r) 64 (omega arith) whole,
+        said,
         made.calls,
         root_is set b text
-        ∙ (ap (λ x. read_then x (root_calls set b)) (lines w (value_has set most_levels (root_type set b) (value.Struct r) whole))
-        ∙ placed_root set (length text) b ps [] made.calls (few_read 0 (part_count ps) (parts_calls set ps (InStruct b) 0 []) (record_count set r 63 b whole) ∙ made.read)),
+        ∙ (ap (λ x. read_then x (root_calls set b)) is
+        ∙ alike_root set b (Fields 0 ps) w made.calls alike (few_read 0 (part_count ps) (parts_calls set ps (InStruct b) 0 []) (record_count set r 63 b whole) ∙ made.read)),
         lead_run set b made.calls (default_record set Endless b) r made.leads,
       )
 
   pub fields_are_made : PrintedFieldsAreMade
   fields_are_made set b i old v accepted inside place plain whole =
       let f = field_at set b i in
-      let w : Written = printed_value set f.type v in
-      let text : List ℕ = line_on w [] in
+      let has : IsReadAs set false f.type v = by_kind f.field.kind (λ slot held. text_read lines set f.type v held) (λ group held. group_read lines set f.type v held) whole in
+      let (text, said, w, is, alike) = has in
       let made = field_made read set (few_fields_of set accepted.rule3) v most_levels b (brand_at set b).node i true old inside (place_of old f.field i place) plain whole in
-      let has : HasLine most_levels w = by_kind f.field.kind (λ slot held. value_has set most_levels f.type v held) (λ group held. group_has set most_levels f.type v held) whole in
       (
         text,
-        by_kind f.field.kind
-        (λ slot held. slot_part set (text_within set 64) VoidValue most_levels f.type v held ∙ value_said set most_levels f.type v 64 (omega arith) held)
-        (λ group held. group_said set most_levels f.type v VoidValue 64 (omega arith) held) whole,
+        said,
         made.calls,
         field_is set f i text
-        ∙ (ap (λ x. read_then x (λ y. value_calls set y (field_target f i))) (lines w has)
-        ∙ placed_calls set (length text) w [] (field_target f i) made.calls made.read),
+        ∙ (ap (λ x. read_then x (λ y. value_calls set y (field_target f i))) is
+        ∙ alike_calls set (printed_value set f.type v) w (field_target f i) made.calls alike made.read),
         lead_run set b made.calls old (with_part old f.field i v) made.leads,
       )

@@ -1,3 +1,4 @@
 pub mod Trees
+pub mod Texts
 pub mod Whole
 pub mod Laws

@@ -1,4 +1,4 @@
--- The calls of what is written are the same wherever it stands.
+-- What is written alike has the same calls, wherever it stands.
 use Rattle.std.specs.Prelude.{⊤}
 use Rattle.std.proofs.Common.{ℕ, suc, ◌-◌, ◌≡◌, refl, List, [], ◌∷◌, ◌++◌, length, Bool, true, false, cond, ◌==◌, nat_lt, Option, None, Some, Ok, Err, ap, ap₂, sym, ◌∙◌, subst}
 use Rattle.capnp_schema.specs.Query.{field_named, records_of}
@@ -8,9 +8,9 @@ use Rattle.capnp_records.specs.Call.{Call, PathStep, Set, VoidSource}
 use Rattle.capnp_words.specs.Marked.{marked_value_by_word}
 use Rattle.capnp_words.specs.Reads as word
 use Rattle.capnp_records.specs.Record.{Value}
-use Rattle.capnp_value_texts.specs.Calls.{Holder, InList, InStruct, PartsMake, Target, all_behind, at_place, begun, both_calls, counted, element_target, field_given, field_target, fields_calls, held_calls, is_given, items_calls, list_begun, mark_of, most_parts, named_target, one_call, part_calls, part_count, parts_calls, root_calls, set_call, target_of, value_calls, void_calls}
+use Rattle.capnp_value_texts.specs.Calls.{Holder, InList, InStruct, PartsMake, Target, all_behind, at_place, begun, both_calls, counted, element_target, field_given, field_target, fields_calls, held_calls, is_given, items_calls, leaf_calls, list_begun, mark_of, most_parts, named_target, one_call, part_calls, part_count, parts_calls, root_calls, set_call, target_of, value_calls, void_calls}
 use Rattle.capnp_value_texts.specs.Errors.{Read, read_as, refused}
-use Rattle.capnp_value_texts.specs.Lines.{line_on, more_on, name_kept, name_on, placed, placed_parts}
+use Rattle.capnp_value_laws.specs.Texts.{AreAlike, ArePartsAlike}
 use Rattle.capnp_value_texts.specs.Written.{Fields, Items, Leaf, NoPart, Part, Parts, Written}
 use Rattle.capnp_value_texts.specs.declared.error.Refusal.{Refusal}
 use Rattle.capnp_value_texts.specs.declared.error.RefusalKind.TheVariants.{CannotStand, GivenTwice, SizePastFormat}
@@ -94,10 +94,12 @@ part_read h index value value' rest rest' (Ok t) q too values rests x is =
     ap (part_calls value' rest' h index) (too t refl) ∙ both_read (value t.0) (value' t.0) (rest h (suc index) t.1) (rest' h (suc index) t.1) (values t.0) (rests t.1) x is
 part_read h index value value' rest rest' (Err e) q too values rests x is = absurd (not_ok is)
 
-module _ (set : Schemas) (whole : ℕ) where
-  same_count : (k : Bracket) (ps : Parts) (rest : List ℕ) → part_count (placed_parts whole k ps rest) ≡ part_count ps
-  same_count k NoPart rest = refl
-  same_count k (Part place name v ps) rest = ap suc (same_count k ps rest)
+module _ (set : Schemas) where
+  same_count : (k : Bracket) (ps qs : Parts) → ArePartsAlike k ps qs → part_count qs ≡ part_count ps
+  same_count k NoPart NoPart alike = refl
+  same_count k NoPart (Part other given v qs) alike = absurd alike
+  same_count k (Part place name w ps) NoPart alike = absurd alike
+  same_count k (Part place name w ps) (Part other given v qs) alike = ap suc (same_count k ps qs alike.2)
 
   -- a target is found or not, wherever its name stands
   target_read : (place other index b : ℕ) (name given : List ℕ) → IsReadToo (target_of set (InStruct b) index place name given) (target_of set (InStruct b) index other name given)
@@ -112,39 +114,51 @@ module _ (set : Schemas) (whole : ℕ) where
       named (Some i) x is = once i (is_given (mark_of (field_at set b i) i) given) x is
 
   mutual
-    value_read : (w : Written) (rest : List ℕ) (t : Target) → IsReadToo (value_calls set w t) (value_calls set (placed whole w rest) t)
-    value_read (Leaf place bs) rest t = leaf_read place (whole - length (bs ++ rest)) t (marked_value_by_word set t.floats t.type bs)
-    value_read (Fields place ps) rest t =
-        let other = whole - length (line_on (Fields place ps) rest) in
-        subst (λ n. IsReadToo (fields_calls place (part_count ps) (parts_calls set ps) t t.type) (fields_calls other n (parts_calls set (placed_parts whole Round ps rest)) t t.type)) (sym (same_count Round ps rest))
-        (fields_read place other (part_count ps) (parts_calls set ps) (parts_calls set (placed_parts whole Round ps rest)) t t.type (λ b. fields_parts_read ps rest b 0 []))
-    value_read (Items place ps) rest t =
-        let other = whole - length (line_on (Items place ps) rest) in
-        subst (λ n. IsReadToo (items_calls place (part_count ps) (parts_calls set ps) t t.type) (items_calls other n (parts_calls set (placed_parts whole Square ps rest)) t t.type)) (sym (same_count Square ps rest))
-        (items_read place other (part_count ps) (parts_calls set ps) (parts_calls set (placed_parts whole Square ps rest)) t t.type (λ e. items_parts_read ps rest e t.floats 0 []))
+    value_read : (w v : Written) (t : Target) → AreAlike w v → IsReadToo (value_calls set w t) (value_calls set v t)
+    value_read (Leaf place bs) (Leaf other cs) t alike =
+        subst (λ xs. IsReadToo (leaf_calls set place bs t) (leaf_calls set other xs t)) alike (leaf_read place other t (marked_value_by_word set t.floats t.type bs))
+    value_read (Leaf place bs) (Fields other qs) t alike = absurd alike
+    value_read (Leaf place bs) (Items other qs) t alike = absurd alike
+    value_read (Fields place ps) (Leaf other cs) t alike = absurd alike
+    value_read (Fields place ps) (Fields other qs) t alike =
+        subst (λ n. IsReadToo (fields_calls place (part_count ps) (parts_calls set ps) t t.type) (fields_calls other n (parts_calls set qs) t t.type)) (sym (same_count Round ps qs alike))
+        (fields_read place other (part_count ps) (parts_calls set ps) (parts_calls set qs) t t.type (λ b. fields_parts_read ps qs b 0 [] alike))
+    value_read (Fields place ps) (Items other qs) t alike = absurd alike
+    value_read (Items place ps) (Leaf other cs) t alike = absurd alike
+    value_read (Items place ps) (Fields other qs) t alike = absurd alike
+    value_read (Items place ps) (Items other qs) t alike =
+        subst (λ n. IsReadToo (items_calls place (part_count ps) (parts_calls set ps) t t.type) (items_calls other n (parts_calls set qs) t t.type)) (sym (same_count Square ps qs alike))
+        (items_read place other (part_count ps) (parts_calls set ps) (parts_calls set qs) t t.type (λ e. items_parts_read ps qs e t.floats 0 [] alike))
 
-    fields_parts_read : (ps : Parts) (rest : List ℕ) (b index : ℕ) (given : List ℕ) → IsReadToo (parts_calls set ps (InStruct b) index given) (parts_calls set (placed_parts whole Round ps rest) (InStruct b) index given)
-    fields_parts_read NoPart rest b index given = λ x is. is
-    fields_parts_read (Part place name v ps) rest b index given =
-        let other = whole - length (name_on Round name (line_on v (more_on Round ps rest))) in
-        part_read (InStruct b) index (value_calls set v) (value_calls set (placed whole v (more_on Round ps rest))) (parts_calls set ps) (parts_calls set (placed_parts whole Round ps rest))
-        (target_of set (InStruct b) index place name given) (target_of set (InStruct b) index other name given) (target_read place other index b name given)
-        (λ t. value_read v (more_on Round ps rest) t) (λ marks. fields_parts_read ps rest b (suc index) marks)
+    fields_parts_read : (ps qs : Parts) (b index : ℕ) (given : List ℕ) → ArePartsAlike Round ps qs → IsReadToo (parts_calls set ps (InStruct b) index given) (parts_calls set qs (InStruct b) index given)
+    fields_parts_read NoPart NoPart b index given alike = λ x is. is
+    fields_parts_read NoPart (Part other named v qs) b index given alike = absurd alike
+    fields_parts_read (Part place name w ps) NoPart b index given alike = absurd alike
+    fields_parts_read (Part place name w ps) (Part other named v qs) b index given alike =
+        part_read (InStruct b) index (value_calls set w) (value_calls set v) (parts_calls set ps) (parts_calls set qs)
+        (target_of set (InStruct b) index place name given) (target_of set (InStruct b) index other named given)
+        (subst (λ xs. IsReadToo (target_of set (InStruct b) index place name given) (target_of set (InStruct b) index other xs given)) alike.0 (target_read place other index b name given))
+        (λ t. value_read w v t alike.1) (λ marks. fields_parts_read ps qs b (suc index) marks alike.2)
 
-    items_parts_read : (ps : Parts) (rest : List ℕ) (e : SchemaType) (floats : Bool) (index : ℕ) (given : List ℕ) → IsReadToo (parts_calls set ps (InList e floats) index given) (parts_calls set (placed_parts whole Square ps rest) (InList e floats) index given)
-    items_parts_read NoPart rest e floats index given = λ x is. is
-    items_parts_read (Part place name v ps) rest e floats index given =
-        part_read (InList e floats) index (value_calls set v) (value_calls set (placed whole v (more_on Square ps rest))) (parts_calls set ps) (parts_calls set (placed_parts whole Square ps rest))
+    items_parts_read : (ps qs : Parts) (e : SchemaType) (floats : Bool) (index : ℕ) (given : List ℕ) → ArePartsAlike Square ps qs → IsReadToo (parts_calls set ps (InList e floats) index given) (parts_calls set qs (InList e floats) index given)
+    items_parts_read NoPart NoPart e floats index given alike = λ x is. is
+    items_parts_read NoPart (Part other named v qs) e floats index given alike = absurd alike
+    items_parts_read (Part place name w ps) NoPart e floats index given alike = absurd alike
+    items_parts_read (Part place name w ps) (Part other named v qs) e floats index given alike =
+        part_read (InList e floats) index (value_calls set w) (value_calls set v) (parts_calls set ps) (parts_calls set qs)
         (Ok (element_target e floats index, given)) (Ok (element_target e floats index, given)) (ok_read (element_target e floats index, given))
-        (λ t. value_read v (more_on Square ps rest) t) (λ marks. items_parts_read ps rest e floats (suc index) marks)
+        (λ t. value_read w v t alike.1) (λ marks. items_parts_read ps qs e floats (suc index) marks alike.2)
 
--- the calls of what is written are the same at each place, where none is refused
-pub placed_calls : (set : Schemas) (whole : ℕ) (w : Written) (rest : List ℕ) (t : Target) (calls : List Call) → value_calls set w t ≡ Ok calls → value_calls set (placed whole w rest) t ≡ Ok calls
-placed_calls set whole w rest t calls is = value_read set whole w rest t calls is
+-- what is written alike has the same calls, where none is refused
+pub alike_calls : (set : Schemas) (w v : Written) (t : Target) (calls : List Call) → AreAlike w v → value_calls set w t ≡ Ok calls → value_calls set v t ≡ Ok calls
+alike_calls set w v t calls alike is = value_read set w v t alike calls is
 
--- and those of a root are
-pub placed_root : (set : Schemas) (whole b : ℕ) (ps : Parts) (rest : List ℕ) (calls : List Call) → root_calls set b (Fields 0 ps) ≡ Ok calls → root_calls set b (placed whole (Fields 0 ps) rest) ≡ Ok calls
-placed_root set whole b ps rest calls is =
-    let other = whole - length (line_on (Fields 0 ps) rest) in
-    ap (λ n. counted other n (parts_calls set (placed_parts whole Round ps rest) (InStruct b) 0 [])) (same_count set whole Round ps rest)
-    ∙ counted_read 0 other (part_count ps) (parts_calls set ps (InStruct b) 0 []) (parts_calls set (placed_parts whole Round ps rest) (InStruct b) 0 []) (fields_parts_read set whole ps rest b 0 []) calls is
+-- and so a root
+pub alike_root : (set : Schemas) (b : ℕ) (w v : Written) (calls : List Call) → AreAlike w v → root_calls set b w ≡ Ok calls → root_calls set b v ≡ Ok calls
+alike_root set b (Leaf place bs) v calls alike is = absurd (not_ok is)
+alike_root set b (Items place ps) v calls alike is = absurd (not_ok is)
+alike_root set b (Fields place ps) (Leaf other cs) calls alike is = absurd alike
+alike_root set b (Fields place ps) (Items other qs) calls alike is = absurd alike
+alike_root set b (Fields place ps) (Fields other qs) calls alike is =
+    ap (λ n. counted other n (parts_calls set qs (InStruct b) 0 [])) (same_count set Round ps qs alike)
+    ∙ counted_read place other (part_count ps) (parts_calls set ps (InStruct b) 0 []) (parts_calls set qs (InStruct b) 0 []) (fields_parts_read set ps qs b 0 [] alike) calls is
