@@ -95,7 +95,7 @@ module _ (set : Schemas) where
     value_has (suc levels) t value.Void h = tt
     value_has levels t v h = leaf_has_line set levels t v h tt
 
-    group_has : (levels : ℕ) (t : SchemaType) (v : Value) → IsWholeGroup set levels t v → HasLine levels (printed_value set t v)
+    pub group_has : (levels : ℕ) (t : SchemaType) (v : Value) → IsWholeGroup set levels t v → HasLine levels (printed_value set t v)
     group_has (suc levels) (StructType b g) (value.Group r) h = record_has levels b r h
     group_has levels t v h = absurd h
 

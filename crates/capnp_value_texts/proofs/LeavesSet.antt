@@ -25,7 +25,7 @@ use Rattle.capnp_value_texts.proofs.LeavesStand.{StandsAlone, data_stands, leaf_
 
 -- ---- a leaf is set ----
 
-unmarked : (set : Schemas) (t : SchemaType) (bs : List ℕ) → marked_value_by_word set false t bs ≡ value_by_word set t bs
+pub unmarked : (set : Schemas) (t : SchemaType) (bs : List ℕ) → marked_value_by_word set false t bs ≡ value_by_word set t bs
 unmarked set VoidType bs = refl
 unmarked set BoolType bs = refl
 unmarked set (IntType bytes) bs = refl
