@@ -1,5 +1,5 @@
 -- What holds of what is printed of whole values.
-use Rattle.std.specs.Prelude.{ℕ, ◌<◌, ◌≡◌, ⊤, List, [], Bool, cond, None, Ok, Some, length}
+use Rattle.std.specs.Prelude.{ℕ, ◌<◌, ◌≡◌, ⊤, List, [], Bool, cond, false, None, Ok, Some, length}
 use Rattle.capnp_schema.specs.Accepted.{IsAccepted}
 use Rattle.capnp_schema.specs.Types.{SchemaType}
 use Rattle.capnp_schema.specs.Schema.{Field, Schemas, field_at, fields_of, is_member}
