@@ -1,32 +1,38 @@
 -- What is printed of a value that holds no others, and that it is a leaf.
-use Rattle.std.proofs.Common.{decimal, codes, flat_map, slice_get, ◌≡◌, ℕ, zero, suc, ◌^◌, ◌<◌, List, [], ◌∷◌, ◌++◌, Bool, cond, pos, negsuc, Option, None, refl, ap, sym, ◌∙◌, append-nil, arith}
+use Rattle.std.proofs.Common.{decimal, codes, flat_map, slice_get, ◌≡◌, ℕ, zero, suc, ◌^◌, ◌<◌, List, [], ◌∷◌, ◌++◌, inl, Bool, cond, pos, negsuc, Option, None, refl, ap, sym, ◌∙◌, append-nil, arith}
 use Rattle.std.specs.Prelude.{⊤}
 use Rattle.std.specs.Fmt.{debug_escape, signed_decimal}
 use Rattle.capnp_schema.specs.Schema.{Schemas, enum_at}
 use Rattle.capnp_schema.specs.Types.{BoolType, DataType, EnumType, IntType, SchemaType, TextType, UIntType, VoidType}
 use Rattle.capnp_records.specs.Record as value
 use Rattle.capnp_records.specs.Record.{Value}
-use Rattle.capnp_records.specs.Text.{Inner, data_text, name_or, said_text, value_text}
-use Rattle.capnp_value_texts.specs.Lines.{HasLine, line_on}
+use Rattle.capnp_records.specs.Text.{Inner, Layout, Out, data_text, name_or, said_text, value_text}
+use Rattle.capnp_value_texts.specs.Lines.{HasLine}
+use Rattle.capnp_value_texts.specs.Written.{Leaf, Written}
 use Rattle.capnp_value_texts.proofs.LeavesSet.{name_stands, quoted_ascii, signed_fits, truth_stands, unsigned_fits}
 use Rattle.capnp_value_texts.proofs.LeavesStand.{data_stands, leaf_text, negative_stands, number_stands, text_stands}
+use Rattle.capnp_value_laws.specs.Texts.{IsTextOf}
 use Rattle.capnp_value_laws.specs.Trees.{printed_value, quoted_bytes}
 use Rattle.capnp_value_laws.specs.Whole.{IsWholeLeaf}
 
-alone : (bs : List ℕ) → said_text bs ≡ said_text (bs ++ [])
-alone bs = ap said_text (sym (append-nil bs))
+-- a text that is one of what is written
+abbrev pub Spelt : Layout → Written → Out → Type 0
+Spelt at w o = (text : List ℕ) × IsTextOf at w text × (o ≡ said_text text)
+
+alone : (at : Layout) (place : ℕ) (bs : List ℕ) → Spelt at (Leaf place bs) (said_text bs)
+alone at place bs = (bs, refl, refl)
 
 -- with any levels left
-pub leaf_said : (set : Schemas) (inner : Option Inner) (t : SchemaType) (v : Value) → IsWholeLeaf set t v → value_text set inner None t v ≡ said_text (line_on (printed_value set t v) [])
-leaf_said set inner VoidType value.Void h = refl
-leaf_said set inner BoolType (value.Truth b) h = alone (cond b (codes "true") (codes "false"))
-leaf_said set inner (IntType bytes) (value.Number (pos n)) h = alone (decimal n)
-leaf_said set inner (IntType bytes) (value.Number (negsuc n)) h = alone (signed_decimal (negsuc n))
-leaf_said set inner (UIntType bytes) (value.Number (pos n)) h = alone (decimal n)
-leaf_said set inner (EnumType e) (value.Enum n) h = alone (name_or n (slice_get (enum_at set e).enumerants n))
-leaf_said set inner TextType (value.Text bs) h = quoted_ascii bs h.0 ∙ alone (quoted_bytes bs)
-leaf_said set inner DataType (value.Data bs) h = alone (data_text bs)
-leaf_said set inner t v h = absurd h.0
+pub leaf_said : (set : Schemas) (inner : Option Inner) (at : Layout) (t : SchemaType) (v : Value) → IsWholeLeaf set t v → Spelt at (printed_value set t v) (value_text set inner at t v)
+leaf_said set inner at VoidType value.Void h = (codes "()", (41 ∷ [], inl refl, refl), refl)
+leaf_said set inner at BoolType (value.Truth b) h = alone at 0 (cond b (codes "true") (codes "false"))
+leaf_said set inner at (IntType bytes) (value.Number (pos n)) h = alone at 0 (decimal n)
+leaf_said set inner at (IntType bytes) (value.Number (negsuc n)) h = alone at 0 (signed_decimal (negsuc n))
+leaf_said set inner at (UIntType bytes) (value.Number (pos n)) h = alone at 0 (decimal n)
+leaf_said set inner at (EnumType e) (value.Enum n) h = alone at 0 (name_or n (slice_get (enum_at set e).enumerants n))
+leaf_said set inner at TextType (value.Text bs) h = (quoted_bytes bs, refl, quoted_ascii bs h.0)
+leaf_said set inner at DataType (value.Data bs) h = alone at 0 (data_text bs)
+leaf_said set inner at t v h = absurd h.0
 
 abbrev pub IsNoVoid : Value → Type 0
 IsNoVoid value.Void = ⊥

@@ -2,12 +2,14 @@ pub mod CallsAlike
 pub mod CallsLead
 pub mod Leaves
 pub mod LeavesMade
-pub mod LineRead
 pub mod LinesPrinted
 pub mod NewRecords
+pub mod OneLine
 pub mod PartsMade
 pub mod PlacesMade
 pub mod ReadBack
 pub mod RecordsMade
 pub mod RowsPrinted
 pub mod TextsPrinted
+pub mod TextsRead
+pub mod ValuesRead

@@ -18,14 +18,13 @@ use Rattle.capnp_words.specs.Laws.{PrintedValuesAreRead}
 use Rattle.capnp_diffs.proofs.Walked.{HasPlace as HasFieldPlace}
 use Rattle.capnp_value_texts.specs.Calls.{InStruct, field_of_text, field_target, most_parts, part_count, parts_calls, root_calls, root_of_text, value_calls}
 use Rattle.capnp_value_texts.specs.Errors.{read_then}
-use Rattle.capnp_value_texts.specs.Lines.{LinesAreRead}
 use Rattle.capnp_value_texts.specs.Written.{Fields, Written, most_levels, written}
 use Rattle.capnp_value_laws.specs.Laws.{HasPlace, Lead, PrintedFieldsAreMade, PrintedRecordsAreMade}
 use Rattle.capnp_value_laws.specs.Trees.{printed_record, printed_value}
 use Rattle.capnp_value_laws.specs.Whole.{ByKind, Either, IsWhole, IsWholeGroup, IsWholeRecord}
 use Rattle.capnp_value_laws.proofs.CallsAlike.{alike_calls, alike_root}
 use Rattle.capnp_value_laws.proofs.CallsLead.{CallsLead, run_done, run_goes}
-use Rattle.capnp_value_laws.proofs.LineRead.{IsReadAs, group_read, text_read}
+use Rattle.capnp_value_laws.proofs.ValuesRead.{IsReadAs, group_read, text_read}
 use Rattle.capnp_value_laws.proofs.PartsMade.{few_read}
 use Rattle.capnp_value_laws.proofs.RecordsMade.{by_kind, field_made, record_count, record_made}
 
@@ -54,10 +53,10 @@ place_of (value.Parts vs u) f i place = go (is_member f) refl place
     go true e h = inl e
     go false e h = inr (e, h)
 
-module _ (lines : LinesAreRead) (read : PrintedValuesAreRead) where
+module _ (read : PrintedValuesAreRead) where
   pub records_made : PrintedRecordsAreMade
-  records_made set b r accepted whole =
-      let (text, said, w, is, alike) = text_read lines set (root_type set b) (value.Struct r) whole in
+  records_made set indented b r accepted whole =
+      let (text, said, w, is, alike) = text_read set indented (root_type set b) (value.Struct r) whole in
       let ps = printed_record set b r in
       let made = record_made read set (few_fields_of set accepted.rule3) r 63 b (brand_at set b).node true whole in
       (
@@ -71,9 +70,9 @@ module _ (lines : LinesAreRead) (read : PrintedValuesAreRead) where
       )
 
   pub fields_are_made : PrintedFieldsAreMade
-  fields_are_made set b i old v accepted inside place plain whole =
+  fields_are_made set indented b i old v accepted inside place plain whole =
       let f = field_at set b i in
-      let has : IsReadAs set false f.type v = by_kind f.field.kind (λ slot held. text_read lines set f.type v held) (λ group held. group_read lines set f.type v held) whole in
+      let has : IsReadAs set indented f.type v = by_kind f.field.kind (λ slot held. text_read set indented f.type v held) (λ group held. group_read set indented f.type v held) whole in
       let (text, said, w, is, alike) = has in
       let made = field_made read set (few_fields_of set accepted.rule3) v most_levels b (brand_at set b).node i true old inside (place_of old f.field i place) plain whole in
       (

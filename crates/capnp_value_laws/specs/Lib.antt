@@ -1,4 +1,4 @@
-pub mod Trees
-pub mod Texts
-pub mod Whole
 pub mod Laws
+pub mod Texts
+pub mod Trees
+pub mod Whole

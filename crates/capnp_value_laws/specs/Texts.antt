@@ -1,8 +1,8 @@
 -- Texts of what is written, on one line and on lines, and what is the same but for its places.
-use Rattle.std.specs.Prelude.{ℕ, ◌≡◌, ◌⊎◌, ⊤, List, [], ◌∷◌, ◌++◌, false}
+use Rattle.std.specs.Prelude.{ℕ, ◌≡◌, ◌⊎◌, ⊤, List, [], ◌∷◌, ◌++◌, false, Ok}
 use Rattle.capnp_records.specs.Text.{Layout, deeper, line, separator}
-use Rattle.capnp_value_texts.specs.Lines.{name_on}
-use Rattle.capnp_value_texts.specs.Written.{Fields, Items, Leaf, NoPart, Part, Parts, Written, closing}
+use Rattle.capnp_value_texts.specs.Lines.{HasLine, name_on}
+use Rattle.capnp_value_texts.specs.Written.{Fields, Items, Leaf, NoPart, Part, Parts, Written, closing, most_levels, written}
 use Rattle.capnp_value_texts.specs.declared.parts.Bracket.{Bracket}
 use Rattle.capnp_value_texts.specs.declared.parts.Bracket.TheVariants.{Round, Square}
 
@@ -40,3 +40,7 @@ abbrev mutual
   ArePartsAlike k NoPart NoPart = ⊤
   ArePartsAlike k (Part place name w ps) (Part other given v qs) = IsSameName k name given × AreAlike w v × ArePartsAlike k ps qs
   ArePartsAlike k ps qs = ⊥
+
+-- each text of what is written is read as that
+abbrev pub TextsAreRead : Type 0
+TextsAreRead = (at : Layout) (w : Written) (text : List ℕ) → HasLine most_levels w → IsTextOf at w text → (v : Written) × AreAlike w v × (written text ≡ Ok v)

@@ -1,15 +1,30 @@
 //! What holds of what is printed of whole values, as contracts of functions that do nothing.
-ghost use Rattle.capnp_value_laws.specs.Laws.{PrintedFieldsAreMade, PrintedRecordsAreMade};
+ghost use Rattle.capnp_value_laws.specs.Laws.{OneLineIsOneText, PrintedFieldsAreMade, PrintedRecordsAreMade, WholeValuesArePrinted};
+ghost use Rattle.capnp_value_laws.specs.Texts.{TextsAreRead};
 
-use capnp_value_texts::laws::lines_are_read;
 use capnp_words::laws::printed_values_are_read;
 
-/// What the printer prints of a whole record, on one line, is read as calls by which a new record becomes it. Whole is what
+/// What the printer prints of a whole value is a text of its tree, on one line and on lines.
+pub fn whole_values_are_printed()
+    ensures { WholeValuesArePrinted }
+{}
+
+/// Each text of a tree is read as the tree, but for its places: with each part on a line of its own or all on one, and brackets
+/// that hold nothing closed at once or on the next line.
+pub fn texts_are_read()
+    ensures { TextsAreRead }
+{}
+
+/// Without lines the tree has one text, its line.
+pub fn one_line_is_one_text()
+    ensures { OneLineIsOneText }
+{}
+
+/// What the printer prints of a whole record, on one line and on lines, is read as calls by which a new record becomes it. Whole is what
 /// stands in its text as it is (`IsWhole`): no floats, no untyped pointers, texts of ASCII alone, nothing that can't be read.
 pub fn printed_records_are_made()
     ensures { PrintedRecordsAreMade }
 {
-    lines_are_read();
     printed_values_are_read();
 }
 
@@ -17,6 +32,5 @@ pub fn printed_records_are_made()
 pub fn printed_fields_are_made()
     ensures { PrintedFieldsAreMade }
 {
-    lines_are_read();
     printed_values_are_read();
 }
