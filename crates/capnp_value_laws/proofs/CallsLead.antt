@@ -1,8 +1,9 @@
 -- What calls make of a value, one after another; and from one step further out.
 use Rattle.std.specs.Prelude.{⊤}
-use Rattle.std.proofs.Common.{ℕ, ◌≡◌, inl, inr, refl, List, [], ◌∷◌, ◌++◌, Bool, true, false, None, Some, Ok, ap, sym, ◌∙◌, subst}
+use Rattle.std.proofs.Common.{ℕ, ◌≡◌, ◌⊎◌, inl, inr, refl, List, [], ◌∷◌, ◌++◌, Bool, true, false, None, Some, Ok, ap, sym, ◌∙◌, subst}
 use Rattle.std.proofs.lemmas.Bool.{true≢false}
 use Rattle.capnp_device.specs.declared.error.ErrorKind.{ErrorKind}
+use Rattle.capnp_device.specs.declared.error.ErrorKind.TheVariants.{OutOfMemory, SizePastFormat}
 use Rattle.capnp_schema.specs.Types.{ListType, SchemaType, StructType}
 use Rattle.capnp_schema.specs.Schema.{ListValue, Schemas, Value as SchemaValue}
 use Rattle.capnp_records.specs.Call.{Call, Done, PathStep, Refused, Reply}
@@ -13,6 +14,7 @@ use Rattle.capnp_records.specs.Step.{CanRefuse, Enters, Passes, StepTarget, Walk
 use Rattle.capnp_diffs.specs.Laws.{AreDone, HaveRoom}
 use Rattle.capnp_diffs.proofs.Walked.{HasRoom, IsSolid, Leaf, Nest}
 use Rattle.capnp_value_texts.specs.Calls.{all_behind, behind}
+use Rattle.capnp_value_laws.specs.Laws.{AreDoneToRoom}
 
 -- one call turns a value of a type into another, where there is room
 abbrev pub CallMakes : Schemas → SchemaType → Value → Call → Value → Type 0
@@ -91,3 +93,23 @@ run_done set b (call ∷ calls) old w (m, solid, makes, rest) (reply ∷ replies
     let made = makes reply (value.Struct mid) step (record { memory = room.0; format = room.1 }) in
     let (done, is) = run_done set b calls mid w (subst (λ x. CallsLead set (root_type set b) x calls w) (sym made.1) rest) replies left run room.2 in
     ((made.0, done), is)
+
+-- a reply is a refusal for room, or not
+room_or_not : (reply : Reply) → ((reply ≡ Refused OutOfMemory) ⊎ (reply ≡ Refused SizePastFormat)) ⊎ HasRoom reply
+room_or_not (Refused OutOfMemory) = inl (inl refl)
+room_or_not (Refused SizePastFormat) = inl (inr refl)
+room_or_not (Refused kind) = inr (record { memory = λ e. cc; format = λ e. cc })
+room_or_not reply = inr (record { memory = λ e. cc; format = λ e. cc })
+
+-- and they are done up to the first that is refused for room
+pub run_goes : (set : Schemas) (b : ℕ) (calls : List Call) (old : Record) (w : Value) → CallsLead set (root_type set b) (value.Struct old) calls w →
+    (replies : List Reply) (left : Record) → Run set b old calls replies left → AreDoneToRoom replies
+run_goes set b [] old w leads [] left run = tt
+run_goes set b [] old w leads (reply ∷ replies) left run = absurd run
+run_goes set b (call ∷ calls) old w leads [] left run = absurd run
+run_goes set b (call ∷ calls) old w (m, solid, makes, rest) (reply ∷ replies) left (mid, step, run) =
+    go (room_or_not reply) (λ is. run_goes set b calls mid w (subst (λ x. CallsLead set (root_type set b) x calls w) (sym is) rest) replies left run)
+  where
+    go : ((reply ≡ Refused OutOfMemory) ⊎ (reply ≡ Refused SizePastFormat)) ⊎ HasRoom reply → (value.Struct mid ≡ m → AreDoneToRoom replies) → AreDoneToRoom (reply ∷ replies)
+    go (inl refused) goes = inr refused
+    go (inr room) goes = let made = makes reply (value.Struct mid) step room in inl (made.0, goes made.1)

@@ -23,7 +23,7 @@ use Rattle.capnp_value_laws.specs.Laws.{HasPlace, Lead, PrintedFieldsAreMade, Pr
 use Rattle.capnp_value_laws.specs.Trees.{printed_record, printed_value}
 use Rattle.capnp_value_laws.specs.Whole.{ByKind, Either, IsWhole, IsWholeGroup, IsWholeRecord}
 use Rattle.capnp_value_laws.proofs.CallsAlike.{alike_calls, alike_root}
-use Rattle.capnp_value_laws.proofs.CallsLead.{CallsLead, run_done}
+use Rattle.capnp_value_laws.proofs.CallsLead.{CallsLead, run_done, run_goes}
 use Rattle.capnp_value_laws.proofs.ValuesRead.{IsReadAs, group_read, text_read}
 use Rattle.capnp_value_laws.proofs.PartsMade.{few_read}
 use Rattle.capnp_value_laws.proofs.RecordsMade.{by_kind, field_made, record_count, record_made}
@@ -41,7 +41,10 @@ field_is set f i text = refl
 
 -- calls that lead to a record are done, and leave it
 lead_run : (set : Schemas) (b : ℕ) (calls : List Call) (old new : Record) → CallsLead set (root_type set b) (value.Struct old) calls (value.Struct new) → Lead set b old calls new
-lead_run set b calls old new leads replies left run room = let (done, is) = run_done set b calls old (value.Struct new) leads replies left run room in (done, struct_same is)
+lead_run set b calls old new leads replies left run = (
+  run_goes set b calls old (value.Struct new) leads replies left run,
+  λ room. let (done, is) = run_done set b calls old (value.Struct new) leads replies left run room in (done, struct_same is),
+)
 
 place_of : (r : Record) (f : Field) (i : ℕ) → HasPlace r f i → HasFieldPlace r f i
 place_of (value.Parts vs u) f i place = go (is_member f) refl place

@@ -1,9 +1,10 @@
 -- What holds of what is printed of whole values.
-use Rattle.std.specs.Prelude.{ℕ, ◌<◌, ◌≡◌, ⊤, List, [], Bool, cond, false, None, Ok, Some, length}
+use Rattle.std.specs.Prelude.{ℕ, ◌<◌, ◌≡◌, ◌⊎◌, ⊤, List, [], ◌∷◌, Bool, false, cond, None, Ok, Some, length}
+use Rattle.capnp_device.specs.declared.error.ErrorKind.TheVariants.{OutOfMemory, SizePastFormat}
 use Rattle.capnp_schema.specs.Accepted.{IsAccepted}
 use Rattle.capnp_schema.specs.Types.{SchemaType}
 use Rattle.capnp_schema.specs.Schema.{Field, Schemas, field_at, fields_of, is_member}
-use Rattle.capnp_records.specs.Call.{Call, Reply}
+use Rattle.capnp_records.specs.Call.{Call, Done, Refused, Reply}
 use Rattle.capnp_records.specs.Default.{default_record}
 use Rattle.capnp_records.specs.Part.{value_count, with_part}
 use Rattle.capnp_records.specs.Record as value
@@ -36,9 +37,14 @@ OneLineIsOneText = (w : Written) (text : List ℕ) → IsTextOf None w text → 
 
 -- ---- calls ----
 
--- Calls lead from one record to another: where there is room, the machine of records refuses none of them, and ends there.
+-- calls are done up to the first that is refused, for the want of memory or because the format has no room
+abbrev pub AreDoneToRoom : List Reply → Type 0
+AreDoneToRoom [] = ⊤
+AreDoneToRoom (reply ∷ replies) = ((reply ≡ Done) × AreDoneToRoom replies) ⊎ (reply ≡ Refused OutOfMemory) ⊎ (reply ≡ Refused SizePastFormat)
+
+-- Calls lead from one record to another: the machine of records refuses none of them but for room, and ends there if it refuses none.
 abbrev pub Lead : Schemas → (brand : ℕ) → Record → List Call → Record → Type 0
-Lead set b old calls new = (replies : List Reply) (left : Record) → Run set b old calls replies left → HaveRoom replies → AreDone replies × (left ≡ new)
+Lead set b old calls new = (replies : List Reply) (left : Record) → Run set b old calls replies left → AreDoneToRoom replies × (HaveRoom replies → AreDone replies × (left ≡ new))
 
 -- a record has a place for a field: a member's is the union
 abbrev pub HasPlace : Record → Field → (index : ℕ) → Type 0
