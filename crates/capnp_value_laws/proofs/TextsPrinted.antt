@@ -155,7 +155,7 @@ group_is_not set zero VoidType r h = h.0
 group_is_not set (suc levels) VoidType r h = h.0
 group_is_not set levels t r h = h.0
 
-slot_part : (set : Schemas) (inner : Inner) (at : Layout) (d : SchemaValue) (levels : ℕ) (t : SchemaType) (v : Value) → IsWhole set levels t v → part_text set inner at d t v ≡ inner at t v
+pub slot_part : (set : Schemas) (inner : Inner) (at : Layout) (d : SchemaValue) (levels : ℕ) (t : SchemaType) (v : Value) → IsWhole set levels t v → part_text set inner at d t v ≡ inner at t v
 slot_part set inner at d levels t (value.Group r) h = absurd (group_is_not set levels t r h)
 slot_part set inner at d levels t (value.Missing l) h = absurd (missing_is_not set levels t l h)
 slot_part set inner at d levels t v h = refl
@@ -174,7 +174,7 @@ within_is : (set : Schemas) (n : ℕ) → text_within set n ≡ value_text set (
 within_is set zero = refl
 within_is set (suc n) = refl
 
-same_spelt : (at : Layout) (w : Written) (o p : Out) → o ≡ p → Spelt at w p → Spelt at w o
+pub same_spelt : (at : Layout) (w : Written) (o p : Out) → o ≡ p → Spelt at w p → Spelt at w o
 same_spelt at w o p e said = (said.0, said.1, e ∙ said.2)
 
 -- a level is left for what takes one
