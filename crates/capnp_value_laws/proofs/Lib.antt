@@ -3,6 +3,7 @@ pub mod CallsLead
 pub mod Leaves
 pub mod LeavesMade
 pub mod LinesPrinted
+pub mod MessagesBack
 pub mod NewRecords
 pub mod OneLine
 pub mod PartsMade

@@ -1,4 +1,5 @@
 pub mod Laws
+pub mod Messages
 pub mod Texts
 pub mod Trees
 pub mod Whole

@@ -1,5 +1,6 @@
 //! What holds of what is printed of whole values, as contracts of functions that do nothing.
 ghost use Rattle.capnp_value_laws.specs.Laws.{OneLineIsOneText, PrintedFieldsAreMade, PrintedRecordsAreMade, WholeValuesArePrinted};
+ghost use Rattle.capnp_value_laws.specs.Messages.{PrintedFieldsAreRead, PrintedRootsAreRead};
 ghost use Rattle.capnp_value_laws.specs.Texts.{TextsAreRead};
 
 use capnp_words::laws::printed_values_are_read;
@@ -31,6 +32,21 @@ pub fn printed_records_are_made()
 /// The same of a value of a field: the calls leave it in its field, in any record, and nothing else is another.
 pub fn printed_fields_are_made()
     ensures { PrintedFieldsAreMade }
+{
+    printed_values_are_read();
+}
+
+/// So a message that `capnp_value_texts::value::read_root` makes of what is printed of a whole record has that record, and that
+/// text is refused for the want of memory alone, or because a list has no room in the format.
+pub fn printed_roots_are_read()
+    ensures { PrintedRootsAreRead }
+{
+    printed_values_are_read();
+}
+
+/// The same of `read_field` and a field's value.
+pub fn printed_fields_are_read()
+    ensures { PrintedFieldsAreRead }
 {
     printed_values_are_read();
 }
