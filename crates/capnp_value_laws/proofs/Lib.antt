@@ -4,6 +4,7 @@ pub mod Leaves
 pub mod LeavesMade
 pub mod LinesPrinted
 pub mod MessagesBack
+pub mod NamesFound
 pub mod NewRecords
 pub mod OneLine
 pub mod PartsMade

@@ -12,7 +12,7 @@ use Rattle.capnp_value_texts.specs.Written.{NoPart, Part, Parts, Written}
 use Rattle.capnp_value_texts.specs.declared.parts.Bracket.{Bracket}
 use Rattle.capnp_value_texts.specs.declared.parts.Bracket.TheVariants.{Round, Square}
 use Rattle.capnp_value_laws.specs.Trees.{MemberPart, both_parts, member_behind, member_left, own_parts, part_if, part_later, parts_before, printed_elements, printed_fields, printed_member, printed_record, printed_value}
-use Rattle.capnp_value_laws.specs.Whole.{AreWhole, AreWholeFields, ByKind, Either, IsElsewhere, IsFieldName, IsNamed, IsNull, IsWhole, IsWholeGroup, IsWholeRecord, IsWholeUnion}
+use Rattle.capnp_value_laws.specs.Whole.{AreWhole, AreWholeFields, ByKind, Either, IsElsewhere, IsFieldName, IsPlainField, IsNull, IsWhole, IsWholeGroup, IsWholeRecord, IsWholeUnion}
 use Rattle.capnp_value_laws.proofs.Leaves.{leaf_has_line}
 
 -- ---- names ----
@@ -104,7 +104,7 @@ module _ (set : Schemas) where
     elements_have levels e (MoreValues v vs) h = (tt, value_has levels e v h.0, elements_have levels e vs h.1)
 
     pub record_has : (levels b : ℕ) (r : Record) → IsWholeRecord set levels b r → HaveLines levels Round (printed_record set b r)
-    record_has levels b (value.Parts vs u) h = fields_have levels b 0 vs (printed_member set b u) (union_has levels b u h.2) h.1
+    record_has levels b (value.Parts vs u) h = fields_have levels b 0 vs (printed_member set b u) (union_has levels b u h.1) h.0
 
     fields_have : (levels b i : ℕ) (vs : Values) (m : MemberPart) → HaveLines levels Round (member_left m) → AreWholeFields set levels b i vs → HaveLines levels Round (printed_fields set b i vs m)
     fields_have levels b i NoValues m k h = k
@@ -113,7 +113,7 @@ module _ (set : Schemas) where
         (own_parts (is_member (field_at set b i).field) m i (part_if (is_there v) (field_at set b i).field.name (printed_value set (field_at set b i).type v)))
         (printed_fields set b (suc i) vs (member_behind (is_member (field_at set b i).field) m i))
         (own_has levels (is_member (field_at set b i).field) (is_there v) m i (field_at set b i).field.name (printed_value set (field_at set b i).type v) (IsElsewhere v)
-        (IsNamed set b i × ByKind (field_at set b i).field.kind (IsWhole set levels (field_at set b i).type v) (IsWholeGroup set levels (field_at set b i).type v)) (IsNull (field_at set b i).field.kind (field_at set b i).type v)
+        (IsPlainField (field_at set b i) × ByKind (field_at set b i).field.kind (IsWhole set levels (field_at set b i).type v) (IsWholeGroup set levels (field_at set b i).type v)) (IsNull (field_at set b i).field.kind (field_at set b i).type v)
         k h.1
         (λ own. (own.0.name, kind_has levels (printed_value set (field_at set b i).type v) (field_at set b i).field.kind (IsWhole set levels (field_at set b i).type v) (IsWholeGroup set levels (field_at set b i).type v)
         (value_has levels (field_at set b i).type v) (group_has levels (field_at set b i).type v) own.1)))

@@ -41,7 +41,7 @@ both true true e = (refl, refl)
 both true false e = (refl, e)
 both false y e = let no : ⊥ = cc in absurd no
 
-same_number : (m n : ℕ) → (m == n) ≡ true → m ≡ n
+pub same_number : (m n : ℕ) → (m == n) ≡ true → m ≡ n
 same_number m n e = grind (arith, nat_tests)
 
 module _ (set : Schemas) (accepted : IsAccepted set) (b : ℕ) where

@@ -13,7 +13,7 @@ use Rattle.capnp_records.specs.Facts.GroupWrite.{bits_at_empty}
 use Rattle.capnp_records.specs.Reading.{active_among, discriminant, kind_value, non_union_parts, part_of, record_within, union_of}
 use Rattle.capnp_records.specs.Record as value
 use Rattle.capnp_records.specs.Record.{Active, Endless, Left, MoreValues, NoUnion, NoValues, Record, Union, Value, Values}
-use Rattle.capnp_value_laws.specs.Whole.{IsFirstMember, IsNull}
+use Rattle.capnp_value_laws.specs.Whole.{IsNull}
 
 -- what a new struct has behind a pointer
 abbrev pub IsNew : FieldKind → SchemaType → Value → Type 0
@@ -87,10 +87,10 @@ module _ (set : Schemas) where
     at_map (f ∷ fs) zero = refl
     at_map (f ∷ fs) (suc i) = at_map fs i
 
-    pub first_new : (i : ℕ) (v : Value) → i < length (fields_of set b) → IsNull (field_at set b i).field.kind (field_at set b i).type v → IsFirstMember set b i → union ≡ Active i v
-    first_new i v inside null first =
-        let found = position-Some (is_member_of 0) (records_of set b) i no_field.field first.1 in
-        second_of ((node_of set b).discriminant_count == 0) NoUnion (active_among part (fields_of set b) 0 (discriminant (node_of set b) [])) first.0
+    pub first_new : (i : ℕ) (v : Value) → i < length (fields_of set b) → IsNull (field_at set b i).field.kind (field_at set b i).type v → ((node_of set b).discriminant_count == 0) ≡ false → member_of (records_of set b) 0 ≡ Some i → union ≡ Active i v
+    first_new i v inside null counted first =
+        let found = position-Some (is_member_of 0) (records_of set b) i no_field.field first in
+        second_of ((node_of set b).discriminant_count == 0) NoUnion (active_among part (fields_of set b) 0 (discriminant (node_of set b) [])) counted
         ∙ (ap (active_among part (fields_of set b) 0) (bits_at_empty (16 * (node_of set b).discriminant_offset) 16)
         ∙ (first_among (fields_of set b) 0 i 0 inside (sym (ap (is_member_of 0) (at_map (fields_of set b) i)) ∙ found.1) (λ j h. sym (ap (is_member_of 0) (at_map (fields_of set b) j)) ∙ found.2 j h)
         ∙ ap₂ Active (omega arith) (null_new (field_at set b i).field.kind (field_at set b i).type v (part (field_at set b i)) null (part_new (field_at set b i)))))

@@ -25,6 +25,7 @@ use Rattle.capnp_value_laws.specs.Whole.{ByKind, Either, IsWhole, IsWholeGroup, 
 use Rattle.capnp_value_laws.proofs.CallsAlike.{alike_calls, alike_root}
 use Rattle.capnp_value_laws.proofs.CallsLead.{CallsLead, run_done, run_goes}
 use Rattle.capnp_value_laws.proofs.ValuesRead.{IsReadAs, group_read, text_read}
+use Rattle.capnp_value_laws.proofs.NamesFound.{fields_known}
 use Rattle.capnp_value_laws.proofs.PartsMade.{few_read}
 use Rattle.capnp_value_laws.proofs.RecordsMade.{by_kind, field_made, record_count, record_made}
 
@@ -58,14 +59,14 @@ module _ (read : PrintedValuesAreRead) where
   records_made set indented b r accepted whole =
       let (text, said, w, is, alike) = text_read set indented (root_type set b) (value.Struct r) whole in
       let ps = printed_record set b r in
-      let made = record_made read set (few_fields_of set accepted.rule3) r 63 b (brand_at set b).node true whole in
+      let made = record_made read set (fields_known set accepted) r 63 b (brand_at set b).node true whole in
       (
         text,
         said,
         made.calls,
         root_is set b text
         ∙ (ap (λ x. read_then x (root_calls set b)) is
-        ∙ alike_root set b (Fields 0 ps) w made.calls alike (few_read 0 (part_count ps) (parts_calls set ps (InStruct b) 0 []) (record_count set r 63 b whole) ∙ made.read)),
+        ∙ alike_root set b (Fields 0 ps) w made.calls alike (few_read 0 (part_count ps) (parts_calls set ps (InStruct b) 0 []) (record_count set r 63 b whole (few_fields_of set accepted.rule3 b)) ∙ made.read)),
         lead_run set b made.calls (default_record set Endless b) r made.leads,
       )
 
@@ -74,7 +75,7 @@ module _ (read : PrintedValuesAreRead) where
       let f = field_at set b i in
       let has : IsReadAs set indented f.type v = by_kind f.field.kind (λ slot held. text_read set indented f.type v held) (λ group held. group_read set indented f.type v held) whole in
       let (text, said, w, is, alike) = has in
-      let made = field_made read set (few_fields_of set accepted.rule3) v most_levels b (brand_at set b).node i true old inside (place_of old f.field i place) plain whole in
+      let made = field_made read set (fields_known set accepted) v most_levels b (brand_at set b).node i true old inside (place_of old f.field i place) plain whole in
       (
         text,
         said,

@@ -21,9 +21,10 @@ use Rattle.capnp_value_texts.specs.Calls.{InList, InStruct, Target, both_calls, 
 use Rattle.capnp_value_texts.specs.Errors.{Read}
 use Rattle.capnp_value_texts.specs.Written.{Fields, Items, NoPart, Part, Parts, Written}
 use Rattle.capnp_value_laws.specs.Trees.{MemberPart, both_parts, member_behind, member_left, own_parts, part_if, part_later, parts_before, printed_elements, printed_fields, printed_member, printed_record, printed_value}
-use Rattle.capnp_value_laws.specs.Whole.{AreWhole, AreWholeFields, ByKind, Either, IsElsewhere, IsNamed, IsNull, IsWhole, IsWholeGroup, IsWholeRecord, IsWholeUnion}
+use Rattle.capnp_value_laws.specs.Whole.{AreWhole, AreWholeFields, ByKind, Either, IsElsewhere, IsPlainField, IsNull, IsWhole, IsWholeGroup, IsWholeRecord, IsWholeUnion}
 use Rattle.capnp_value_laws.proofs.CallsLead.{CallsLead}
 use Rattle.capnp_value_laws.proofs.LeavesMade.{leaf_brings, leaf_calls_are, plain_target}
+use Rattle.capnp_value_laws.proofs.NamesFound.{KnowsFields, same_number}
 use Rattle.capnp_value_laws.proofs.NewRecords.{AreNew, IsNew, fields_new, first_new, no_union_new, null_new, part, union}
 use Rattle.capnp_value_laws.proofs.PartsMade.{IsFresh, IsMade, both_count, both_nothing, both_thrice, fresh_after, fresh_more, fresh_union, given_more, made_both, made_field, made_from, made_held}
 use Rattle.capnp_value_laws.proofs.PlacesMade.{CanMake, IsLeafType, element_can, field_can, group_begins}
@@ -63,6 +64,15 @@ by_kind (Group node) slot group told = group refl told
 by_test : {M F R : Type 0} (q : Bool) → (q ≡ true → M → R) → (q ≡ false → F → R) → Either q M F → R
 by_test true m f told = m refl told
 by_test false m f told = f refl told
+
+-- what isn't shown of a member has discriminant value 0
+none_shown : (there : Bool) (d : ℕ) → there || not (d == 0) ≡ false → d ≡ 0
+none_shown true d e = let no : ⊥ = cc in absurd no
+none_shown false d e = go (d == 0) refl e
+  where
+    go : (q : Bool) → q ≡ (d == 0) → not q ≡ false → d ≡ 0
+    go true is h = same_number d 0 (sym is)
+    go false is h = let no : ⊥ = cc in absurd no
 
 elsewhere_is : (v : Value) → IsElsewhere v → v ≡ value.Elsewhere
 elsewhere_is value.Elsewhere is = refl
@@ -111,12 +121,11 @@ module _ (set : Schemas) where
   union_count (Active i v) b =
       shown_count (is_there v || not ((field_at set b i).field.discriminant_value == 0)) (field_at set b i).field.name (printed_value set (field_at set b i).type v)
 
-  pub record_count : (r : Record) (levels b : ℕ) → IsWholeRecord set levels b r → part_count (printed_record set b r) ≤ most_parts
-  record_count (value.Parts vs u) levels b whole =
+  pub record_count : (r : Record) (levels b : ℕ) → IsWholeRecord set levels b r → length (fields_of set b) ≤ 65535 → part_count (printed_record set b r) ≤ most_parts
+  record_count (value.Parts vs u) levels b whole few =
       let parts = fields_count vs b 0 (printed_member set b u) in
-      let values = whole_count vs levels b 0 whole.1 in
+      let values = whole_count vs levels b 0 whole.0 in
       let member = union_count u b in
-      let few = whole.0 in
       omega (arith, parts, values, member, few)
 
 -- ---- leaves ----
@@ -310,13 +319,13 @@ part_made set b g k i r v floats made =
     (ap (value_calls set (printed_value set (field_at set b i).type v)) (is_float_plain (field_at set b i) i floats)) made
 
 -- a struct or group is begun, and its fields are made
-held_made : (set : Schemas) (s : SchemaType) (c h : ℕ) (k : Bool) (q : Record) (levels : ℕ) (step : PathStep) (stands : Bool) (here : Value) (put : Value → Value) → IsWholeRecord set levels c q →
+held_made : (set : Schemas) (s : SchemaType) (c h : ℕ) (k : Bool) (q : Record) (levels : ℕ) (step : PathStep) (stands : Bool) (here : Value) (put : Value → Value) → IsWholeRecord set levels c q → length (fields_of set c) ≤ 65535 →
     CallsLead set s here (cond stands [] (one_call step Init)) (put (wrap k (default_record set Endless c))) → Nest set s (StructType c h) step put →
     IsMade set (StructType c h) (wrap k (default_record set Endless c)) (parts_calls set (printed_record set c q) (InStruct c) 0 []) (wrap k q) →
     IsMade set s here (value_calls set (Fields 0 (printed_record set c q)) (plain_target step (StructType c h) stands)) (put (wrap k q))
-held_made set s c h k q levels step stands here put whole begun nest made =
+held_made set s c h k q levels step stands here put whole few begun nest made =
     made_held set s (StructType c h) step put here (wrap k (default_record set Endless c)) (wrap k q) 0 (part_count (printed_record set c q)) (cond stands [] (one_call step Init))
-    (parts_calls set (printed_record set c q) (InStruct c) 0 []) (record_count set q levels c whole) begun nest (wrap_solid k (default_record set Endless c)) made
+    (parts_calls set (printed_record set c q) (InStruct c) 0 []) (record_count set q levels c whole few) begun nest (wrap_solid k (default_record set Endless c)) made
   where
     wrap_solid : (k : Bool) (r : Record) → IsSolid (wrap k r)
     wrap_solid true r = tt
@@ -333,13 +342,13 @@ list_made set s e vs step stands here put few can made =
     (subst (λ n. CallsLead set s here (one_call step (Initn n)) (put (value.Elements (values_from (λ _. new_element set e) 0 (value_count vs))))) (sym count) (can.lists e (value_count vs) refl))
     (can.nest tt) tt made
 
-module _ (read : PrintedValuesAreRead) (set : Schemas) (few : (b : ℕ) → length (fields_of set b) ≤ 65535) where
+module _ (read : PrintedValuesAreRead) (set : Schemas) (known : KnowsFields set) where
   mutual
     -- a value of a type, where a place takes it
     pub value_made : (v : Value) (t : SchemaType) (levels : ℕ) (s : SchemaType) (step : PathStep) (stands : Bool) (here : Value) (put : Value → Value) → IsWhole set levels t v → CanMake set s step t stands here put →
         IsMade set s here (value_calls set (printed_value set t v) (plain_target step t stands)) (put v)
     value_made (value.Struct r) (StructType b g) (suc levels) s step stands here put whole can =
-        held_made set s b g true r levels step stands here put whole (can.begins b g refl) (can.nest tt) (record_made r levels b g true whole)
+        held_made set s b g true r levels step stands here put whole (known.few b) (can.begins b g refl) (can.nest tt) (record_made r levels b g true whole)
     value_made (value.Elements vs) (ListType e) (suc levels) s step stands here put whole can =
         list_made set s e vs step stands here put whole.0 can (elements_made vs NoValues levels e 0 [] whole.1)
     value_made v t levels s step stands here put whole can = made_leaf read set v t s step stands here put (bare_whole set levels t v tt whole) can
@@ -348,7 +357,7 @@ module _ (read : PrintedValuesAreRead) (set : Schemas) (few : (b : ℕ) → leng
     pub group_made : (v : Value) (t : SchemaType) (levels b g i : ℕ) (k : Bool) (r : Record) → (field_at set b i).type ≡ t → i < length (fields_of set b) → HasPlace r (field_at set b i).field i → is_group_field (field_at set b i).field.kind ≡ true →
         IsWholeGroup set levels t v → IsMade set (StructType b g) (wrap k r) (value_calls set (printed_value set t v) (plain_target (FieldNumber i) t false)) (wrap k (with_part r (field_at set b i).field i v))
     group_made (value.Group q) (StructType c h) (suc levels) b g i k r is inside place group whole =
-        held_made set (StructType b g) c h false q levels (FieldNumber i) false (wrap k r) (λ x. wrap k (with_part r (field_at set b i).field i x)) whole
+        held_made set (StructType b g) c h false q levels (FieldNumber i) false (wrap k r) (λ x. wrap k (with_part r (field_at set b i).field i x)) whole (known.few c)
         (group_begins set b g i k r inside c h is group) (field_nest set b g i k r (StructType c h) is inside place tt) (record_made q levels c h false whole)
     group_made v t levels b g i k r is inside place group whole = absurd (no_group set levels t v tt whole)
 
@@ -377,7 +386,7 @@ module _ (read : PrintedValuesAreRead) (set : Schemas) (few : (b : ℕ) → leng
     fields_made (MoreValues v vs) NoValues ds u w m levels b g k index given whole new pending fresh = absurd (let h = whole.0 in omega (arith, new, h))
     fields_made (MoreValues v vs) (MoreValues e es) ds u w m levels b g k index given whole new pending fresh =
         let i = value_count ds in
-        let few_here = few b in
+        let few_here = known.few b in
         let inside = whole.0 in
         let next : (x : Union) (rest : MemberPart) (n : ℕ) (marks : List ℕ) → IsPending set b g k rest x w marks → IsFresh (suc i) marks →
             IsMade set (StructType b g) (wrap k (value.Parts (joined (with_last ds v) es) x)) (parts_calls set (printed_fields set b (value_count (with_last ds v)) vs rest) (InStruct b) n marks) (wrap k (value.Parts (joined (with_last ds v) vs) w)) =
@@ -387,7 +396,7 @@ module _ (read : PrintedValuesAreRead) (set : Schemas) (few : (b : ℕ) → leng
         (λ member is. elsewhere_made set b g k ds v e es vs u w m index given member (new.1 member ∙ sym (elsewhere_is v is)) (next u m index given pending (fresh_after i given fresh)))
         (λ plain is. plain_made set b g k ds v e es vs u w m index given plain pending fresh (λ x n marks free comes.
             by_test (is_there v)
-            (λ there has. shown_made set b g k ds v e es vs x w (part_later m i) n marks there plain has.0.found (free i (omega arith) (omega (arith, few_here, inside)))
+            (λ there has. shown_made set b g k ds v e es vs x w (part_later m i) n marks there plain (known.found b i inside) (free i (omega arith) (omega (arith, few_here, inside)))
                 (part_made set b g k i (value.Parts (joined ds (MoreValues e es)) x) v has.0.floats (by_kind (field_at set b i).field.kind
                 (λ slot held. value_made v (field_at set b i).type levels (StructType b g) (FieldNumber i) false (wrap k (value.Parts (joined ds (MoreValues e es)) x)) (λ y. wrap k (with_part (value.Parts (joined ds (MoreValues e es)) x) (field_at set b i).field i y)) held
                 (field_can set b g i k (value.Parts (joined ds (MoreValues e es)) x) inside slot (inr (plain, inside_joined ds e es))))
@@ -406,20 +415,20 @@ module _ (read : PrintedValuesAreRead) (set : Schemas) (few : (b : ℕ) → leng
         let f = field_at set b i in
         by_test (is_there v || not (f.field.discriminant_value == 0))
         (λ shown has. subst (λ q. IsPendingPart set b g k (part_if q f.field.name (printed_value set f.type v)) i (union set b) (Active i v) []) (sym shown)
-            (refl, has.0.found, whole.1, refl, λ xs x.
+            (refl, known.found b i whole.0, whole.1, refl, λ xs x.
             made_from set (StructType b g) _ _ _ _ (value_calls set (printed_value set f.type v) (field_target f i)) (value_calls set (printed_value set f.type v) (field_target f i)) refl
             (ap (wrap k) (with_member f.field i xs x v whole.1)) refl
             (part_made set b g k i (value.Parts xs x) v has.0.floats (by_kind f.field.kind
             (λ slot held. value_made v f.type levels (StructType b g) (FieldNumber i) false (wrap k (value.Parts xs x)) (λ y. wrap k (with_part (value.Parts xs x) f.field i y)) held (field_can set b g i k (value.Parts xs x) whole.0 slot (inl whole.1)))
             (λ group held. group_made v f.type levels b g i k (value.Parts xs x) refl whole.0 (inl whole.1) group held)
             has.1))))
-        (λ unshown has. subst (λ q. IsPendingPart set b g k (part_if q f.field.name (printed_value set f.type v)) i (union set b) (Active i v) []) (sym unshown) (first_new set b i v whole.0 has.0 has.1))
+        (λ unshown has. subst (λ q. IsPendingPart set b g k (part_if q f.field.name (printed_value set f.type v)) i (union set b) (Active i v) []) (sym unshown) (first_new set b i v whole.0 has (known.counted b i whole.0 whole.1) (known.first b i whole.0 whole.1 (none_shown (is_there v) f.field.discriminant_value unshown))))
         whole.2
 
     pub record_made : (q : Record) (levels b g : ℕ) (k : Bool) → IsWholeRecord set levels b q →
         IsMade set (StructType b g) (wrap k (default_record set Endless b)) (parts_calls set (printed_record set b q) (InStruct b) 0 []) (wrap k q)
     record_made (value.Parts vs w) levels b g k whole =
-        fields_made vs (non_union_parts (part set) (fields_of set b)) NoValues (union set b) w (printed_member set b w) levels b g k 0 [] whole.1 (fields_new set b) (union_made w levels b g k whole.2) (λ mark h small. refl)
+        fields_made vs (non_union_parts (part set) (fields_of set b)) NoValues (union set b) w (printed_member set b w) levels b g k 0 [] whole.0 (fields_new set b) (union_made w levels b g k whole.1) (λ mark h small. refl)
 
   -- a value of a field, in any record with a place for it
   pub field_made : (v : Value) (levels b g i : ℕ) (k : Bool) (r : Record) → i < length (fields_of set b) → HasPlace r (field_at set b i).field i → is_float (field_at set b i) ≡ false →

@@ -3,14 +3,14 @@ use Rattle.std.proofs.Common.{◌≡◌, ◌<◌, ℕ, true, false, List, [], �
 use Rattle.std.specs.Fmt.{debug_escape, digits}
 use Rattle.std.specs.Str.{chars, is_utf8}
 use lib.Utf8.{encode}
-use Rattle.capnp_schema.specs.Schema.{Brand, BoolValue, Enum, Enumerant, EnumValue, Field, FieldKind, Group, IntValue, ListValue, Node, Schemas, Slot, StructValue, TextValue, UIntValue, VoidValue, no_types}
+use Rattle.capnp_schema.specs.Schema.{Brand, BoolValue, Enum, Enumerant, EnumValue, Field, FieldKind, Group, IntValue, ListValue, Node, Schemas, Slot, StructValue, TextValue, UIntValue, VoidValue, field_at, no_types}
 use Rattle.capnp_schema.specs.Types.{AnyPointerType, BoolType, EnumType, IntType, ListType, SchemaType, StructType, TextType, UIntType, VoidType}
 use Rattle.capnp_records.specs.Record as value
 use Rattle.capnp_records.specs.Record.{Active, Endless, Left, MoreValues, NoUnion, NoValues, Parts, Record, Union, Value, Values}
 use Rattle.capnp_records.specs.Text.{said_text, text_of}
 use Rattle.capnp_value_texts.specs.Lines.{line_on}
 use Rattle.capnp_value_laws.specs.Trees.{printed_value}
-use Rattle.capnp_value_laws.specs.Whole.{IsNamed, IsWhole}
+use Rattle.capnp_value_laws.specs.Whole.{IsPlainField, IsWhole}
 
 abbrev field : List ℕ → ℕ → FieldKind → Field
 field name member kind = record { name = name; discriminant_value = member; annotations = []; kind = kind }
@@ -119,39 +119,38 @@ texts = refl
 
 -- ---- which are whole ----
 
-named_first : IsNamed set 0 0
-named_first = record { name = (omega arith, refl); found = refl; floats = refl }
+named_first : IsPlainField (field_at set 0 0)
+named_first = record { name = (omega arith, refl); floats = refl }
 
 -- `()` of the member takes a second bracket
 plain_is_whole : IsWhole set 2 (StructType 0 0) (value.Struct plain)
 plain_is_whole =
-    (omega arith,
-    (omega arith, (named_first, ((omega arith, omega arith), tt)),
+    ((omega arith, (named_first, ((omega arith, omega arith), tt)),
     (omega arith, refl,
     (omega arith, tt,
     (omega arith, refl,
     (omega arith, tt,
     (omega arith, refl,
     (omega arith, tt,
-    (omega arith, (record { name = (omega arith, refl); found = refl; floats = refl }, (tt, tt)),
+    (omega arith, (record { name = (omega arith, refl); floats = refl }, (tt, tt)),
     refl)))))))),
-    (omega arith, refl, (record { name = (omega arith, refl); found = refl; floats = refl }, (tt, tt))))
+    (omega arith, refl, (record { name = (omega arith, refl); floats = refl }, (tt, tt))))
 
 one_bracket_is_too_few : IsWhole set 1 (StructType 0 0) (value.Struct plain) → ⊥
-one_bracket_is_too_few h = h.2.2.1
+one_bracket_is_too_few h = h.1.2.1
 
 first_is_whole : IsWhole set 1 (StructType 2 2) (value.Struct (Parts (row (value.Elsewhere ∷ value.Elsewhere ∷ [])) (Active 0 missing)))
-first_is_whole = (omega arith, (omega arith, tt, (omega arith, tt, refl)), (omega arith, refl, (refl, (refl, refl))))
+first_is_whole = ((omega arith, tt, (omega arith, tt, refl)), (omega arith, refl, refl))
 
 -- what is printed of a null pointer there is its default, which would stand there
 null_member_is_not : IsWhole set 1 (StructType 2 2) (value.Struct (Parts (row (value.Elsewhere ∷ value.Elsewhere ∷ [])) (Active 1 missing))) → ⊥
-null_member_is_not h = h.2.2.1.0
+null_member_is_not h = h.1.2.1.0
 
 null_element_is_not : IsWhole set 1 (ListType TextType) (value.Elements (row (missing ∷ []))) → ⊥
 null_element_is_not h = h.1.0.0
 
 levels_are_not : IsWhole set 2 (StructType 0 0) (value.Struct (of_parts (value.Number (pos 0)) (value.Missing (Left 63)) missing missing (value.Truth true) (Active 2 value.Void))) → ⊥
-levels_are_not h = h.1.2.1
+levels_are_not h = h.0.2.1
 
 past_ascii_is_not : IsWhole set 1 TextType (value.Text (200 ∷ [])) → ⊥
 past_ascii_is_not h = let no : false ≡ true = h.0.0 in grind (arith)

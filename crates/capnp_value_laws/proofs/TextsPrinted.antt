@@ -14,7 +14,7 @@ use Rattle.capnp_value_texts.specs.declared.parts.Bracket.{Bracket}
 use Rattle.capnp_value_texts.specs.declared.parts.Bracket.TheVariants.{Round, Square}
 use Rattle.capnp_value_laws.specs.Texts.{AreFirst, AreMore, IsTextOf}
 use Rattle.capnp_value_laws.specs.Trees.{MemberPart, both_parts, member_behind, member_left, own_parts, part_if, part_later, parts_before, printed_elements, printed_fields, printed_member, printed_record, printed_value}
-use Rattle.capnp_value_laws.specs.Whole.{AreWhole, AreWholeFields, ByKind, Either, IsElsewhere, IsFirstMember, IsNamed, IsNull, IsWhole, IsWholeGroup, IsWholeLeaf, IsWholeRecord, IsWholeUnion}
+use Rattle.capnp_value_laws.specs.Whole.{AreWhole, AreWholeFields, ByKind, Either, IsElsewhere, IsPlainField, IsNull, IsWhole, IsWholeGroup, IsWholeLeaf, IsWholeRecord, IsWholeUnion}
 use Rattle.capnp_value_laws.proofs.Leaves.{Spelt, leaf_said}
 
 -- ---- items ----
@@ -187,8 +187,8 @@ entered set at w levels (suc n) text h e = e n (omega (arith, h))
 nothing_printed : (set : Schemas) (levels b : ℕ) (vs : Values) (u : Union) → IsWholeRecord set levels b (value.Parts vs u) → fields_of set b ≡ [] → printed_record set b (value.Parts vs u) ≡ NoPart
 nothing_printed set levels b NoValues NoUnion h e = refl
 nothing_printed set levels b NoValues (Unknown number) h e = refl
-nothing_printed set levels b NoValues (Active i v) h e = let none : length (fields_of set b) ≡ 0 = ap length e in absurd (omega (arith, none, h.2.0))
-nothing_printed set levels b (MoreValues v vs) u h e = let none : length (fields_of set b) ≡ 0 = ap length e in absurd (omega (arith, none, h.1.0))
+nothing_printed set levels b NoValues (Active i v) h e = let none : length (fields_of set b) ≡ 0 = ap length e in absurd (omega (arith, none, h.1.0))
+nothing_printed set levels b (MoreValues v vs) u h e = let none : length (fields_of set b) ≡ 0 = ap length e in absurd (omega (arith, none, h.0.0))
 
 where_shown : (q : Bool) (A B : Type 0) → q ≡ true → Either q A B → A
 where_shown true A B e h = h
@@ -245,7 +245,7 @@ module _ (set : Schemas) where
     record_said : (levels b : ℕ) (r : Record) (at : Layout) (n : ℕ) → levels ≤ n → IsWholeRecord set levels b r → Spelt at (Fields 0 (printed_record set b r)) (record_text set (text_within set n) at b r)
     record_said levels b (value.Parts vs u) at n k h =
         struct_said at (fields_of set b) (printed_record set b (value.Parts vs u)) (shown set (text_within set n) (deeper at) (fields_of set b) 0 vs (member set (text_within set n) (deeper at) b u))
-        (fields_said levels b 0 vs (fields_of set b) (printed_member set b u) (member set (text_within set n) (deeper at) b u) (deeper at) n k refl (union_said levels b u (deeper at) n k h.2) h.1)
+        (fields_said levels b 0 vs (fields_of set b) (printed_member set b u) (member set (text_within set n) (deeper at) b u) (deeper at) n k refl (union_said levels b u (deeper at) n k h.1) h.0)
         (nothing_printed set levels b vs u h)
 
     fields_said : (levels b i : ℕ) (vs : Values) (fs : List TypedField) (m : MemberPart) (y : Member) (at : Layout) (n : ℕ) → levels ≤ n → fs ≡ drop i (fields_of set b) → IsMemberText at m y → AreWholeFields set levels b i vs
@@ -257,7 +257,7 @@ module _ (set : Schemas) where
         subst (λ (x : TypedField). AreItems at Round (printed_fields set b i (MoreValues v vs) m) (shown set (text_within set n) at (x ∷ fs) i (MoreValues v vs) y)) rest.1
         (field_said set (text_within set n) at (field_at set b i) b i fs vs m y (printed_value set (field_at set b i).type v)
         (part_text set (text_within set n) at (default_of (field_at set b i).field) (field_at set b i).type v) (is_member (field_at set b i).field) (is_there v) (IsElsewhere v)
-        (IsNamed set b i × ByKind (field_at set b i).field.kind (IsWhole set levels (field_at set b i).type v) (IsWholeGroup set levels (field_at set b i).type v)) (IsNull (field_at set b i).field.kind (field_at set b i).type v)
+        (IsPlainField (field_at set b i) × ByKind (field_at set b i).field.kind (IsWhole set levels (field_at set b i).type v) (IsWholeGroup set levels (field_at set b i).type v)) (IsNull (field_at set b i).field.kind (field_at set b i).type v)
         members (λ p q next. fields_said levels b (suc i) vs fs p q at n k rest.0 next h.2) h.1
         (λ whole. part_said set (text_within set n) at levels (field_at set b i).field.kind (default_of (field_at set b i).field) (field_at set b i).type v (printed_value set (field_at set b i).type v)
         (value_said levels (field_at set b i).type v at n k) (group_said levels (field_at set b i).type v at (default_of (field_at set b i).field) n k) whole.1))

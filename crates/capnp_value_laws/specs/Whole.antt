@@ -1,8 +1,7 @@
 -- Values that stand whole in what is printed of them.
-use Rattle.std.specs.Prelude.{ℕ, zero, suc, ◌<◌, ◌≤◌, ◌≡◌, ⊤, List, Bool, true, false, not, ◌||◌, ◌==◌, length, Some}
+use Rattle.std.specs.Prelude.{ℕ, zero, suc, ◌<◌, ◌≤◌, ◌≡◌, ⊤, List, Bool, true, false, not, ◌||◌, ◌==◌, length}
 use Rattle.std.specs.List.{list_all}
-use Rattle.capnp_schema.specs.Query.{field_named, member_of, records_of}
-use Rattle.capnp_schema.specs.Schema.{FieldKind, Group, Schemas, Slot, field_at, fields_of, is_member, node_of}
+use Rattle.capnp_schema.specs.Schema.{FieldKind, Group, Schemas, Slot, TypedField, field_at, fields_of, is_member, node_of}
 use Rattle.capnp_schema.specs.Types.{ListType, SchemaType, StructType, is_pointer}
 use Rattle.capnp_records.specs.Part.{value_count}
 use Rattle.capnp_records.specs.Record as value
@@ -17,11 +16,10 @@ use Rattle.capnp_value_texts.specs.Lengths.{ends_name}
 abbrev pub IsFieldName : List ℕ → Type 0
 IsFieldName name = (0 < length name) × (list_all (λ byte. not (ends_name byte)) name ≡ true)
 
--- the field of an index is found by its name, and its numbers are none of floats
-pub record IsNamed (set : Schemas) (b i : ℕ) : Type 0 where
-  pub name : IsFieldName (field_at set b i).field.name
-  pub found : field_named (records_of set b) (field_at set b i).field.name ≡ Some i
-  pub floats : is_float (field_at set b i) ≡ false
+-- the name of a field can be read, and its numbers are none of floats
+pub record IsPlainField (f : TypedField) : Type 0 where
+  pub name : IsFieldName f.field.name
+  pub floats : is_float f ≡ false
 
 -- a value that holds no others: numbers in their range, texts of ASCII, enums whose enumerants' names can be told apart
 abbrev pub IsWholeLeaf : Schemas → SchemaType → Value → Type 0
@@ -31,10 +29,6 @@ IsWholeLeaf set t v = IsWritable set t v × HasLeafNames set t
 abbrev pub IsNull : FieldKind → SchemaType → Value → Type 0
 IsNull (Slot offset default) t (value.Missing Endless) = is_pointer t ≡ true
 IsNull kind t v = ⊥
-
--- the member of discriminant value 0, which is active in a new struct
-abbrev pub IsFirstMember : Schemas → (brand index : ℕ) → Type 0
-IsFirstMember set b i = ((node_of set b).discriminant_count == 0 ≡ false) × (member_of (records_of set b) 0 ≡ Some i)
 
 abbrev pub IsElsewhere : Value → Type 0
 IsElsewhere value.Elsewhere = ⊤
@@ -68,7 +62,7 @@ abbrev mutual
 
   -- a value for each non-union field, and the union of the node
   pub IsWholeRecord : Schemas → (levels brand : ℕ) → Record → Type 0
-  IsWholeRecord set levels b (Parts vs u) = (length (fields_of set b) < most_parts) × AreWholeFields set levels b 0 vs × IsWholeUnion set levels b u
+  IsWholeRecord set levels b (Parts vs u) = AreWholeFields set levels b 0 vs × IsWholeUnion set levels b u
 
   pub AreWholeFields : Schemas → (levels brand index : ℕ) → Values → Type 0
   AreWholeFields set levels b i NoValues = length (fields_of set b) ≡ i
@@ -76,7 +70,7 @@ abbrev mutual
       (i < length (fields_of set b))
       × Either (is_member (field_at set b i).field) (IsElsewhere v)
       (Either (is_there v)
-      (IsNamed set b i × ByKind (field_at set b i).field.kind (IsWhole set levels (field_at set b i).type v) (IsWholeGroup set levels (field_at set b i).type v))
+      (IsPlainField (field_at set b i) × ByKind (field_at set b i).field.kind (IsWhole set levels (field_at set b i).type v) (IsWholeGroup set levels (field_at set b i).type v))
       (IsNull (field_at set b i).field.kind (field_at set b i).type v))
       × AreWholeFields set levels b (suc i) vs
 
@@ -86,5 +80,5 @@ abbrev mutual
   IsWholeUnion set levels b (Active i v) =
       (i < length (fields_of set b)) × (is_member (field_at set b i).field ≡ true)
       × Either (is_there v || not ((field_at set b i).field.discriminant_value == 0))
-      (IsNamed set b i × ByKind (field_at set b i).field.kind (IsWhole set levels (field_at set b i).type v) (IsWholeGroup set levels (field_at set b i).type v))
-      (IsNull (field_at set b i).field.kind (field_at set b i).type v × IsFirstMember set b i)
+      (IsPlainField (field_at set b i) × ByKind (field_at set b i).field.kind (IsWhole set levels (field_at set b i).type v) (IsWholeGroup set levels (field_at set b i).type v))
+      (IsNull (field_at set b i).field.kind (field_at set b i).type v)
