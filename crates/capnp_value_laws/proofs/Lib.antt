@@ -11,6 +11,7 @@ pub mod PartsMade
 pub mod PlacesMade
 pub mod ReadBack
 pub mod RecordsMade
+pub mod RowsMade
 pub mod RowsPrinted
 pub mod TextsPrinted
 pub mod TextsRead

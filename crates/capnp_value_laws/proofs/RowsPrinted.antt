@@ -63,7 +63,7 @@ brand n types = record { node = n; field_types = types; annotation_types = no_ty
 abbrev enumerant : List ℕ → Enumerant
 enumerant name = record { name = name; annotations = [] }
 
-abbrev set : Schemas
+abbrev pub set : Schemas
 set = record {
   nodes = node ∷ group ∷ chosen ∷ [];
   brands = brand 0 (IntType 1 ∷ TextType ∷ VoidType ∷ ListType (StructType 0 0) ∷ EnumType 0 ∷ ListType (ListType (UIntType 1)) ∷ StructType 1 1 ∷ BoolType ∷ [])
@@ -71,25 +71,25 @@ set = record {
   enums = record { id = 4; display_name = []; annotations = []; enumerants = enumerant (codes "red") ∷ enumerant (codes "blue") ∷ []; annotation_types = no_types } ∷ [];
 }
 
-abbrev row : List Value → Values
+abbrev pub row : List Value → Values
 row [] = NoValues
 row (v ∷ vs) = MoreValues v (row vs)
 
-abbrev missing : Value
+abbrev pub missing : Value
 missing = value.Missing Endless
 
 -- a record by its number, text, lists and truth value, and its union
-abbrev of_parts : Value → Value → Value → Value → Value → Union → Record
+abbrev pub of_parts : Value → Value → Value → Value → Value → Union → Record
 of_parts a t l m z u = Parts (row (a ∷ t ∷ value.Elsewhere ∷ l ∷ value.Elsewhere ∷ m ∷ value.Elsewhere ∷ z ∷ [])) u
 
-abbrev plain : Record
+abbrev pub plain : Record
 plain = of_parts (value.Number (negsuc 4)) missing missing missing (value.Truth true) (Active 2 value.Void)
 
-abbrev with_lists : Record
+abbrev pub with_lists : Record
 with_lists = of_parts (value.Number (pos 7)) (value.Text (codes "a,\"b")) (value.Elements (row (value.Struct plain ∷ []))) (value.Elements (row (value.Elements NoValues ∷ value.Elements (row (value.Number (pos 1) ∷ value.Number (pos 2) ∷ [])) ∷ [])))
     (value.Truth false) (Active 4 (value.Enum 1))
 
-abbrev with_group : Record
+abbrev pub with_group : Record
 with_group = of_parts (value.Number (pos 0)) missing missing missing (value.Truth false) (Active 6 (value.Group (Parts (row (value.Number (pos 300) ∷ value.Struct plain ∷ [])) NoUnion)))
 
 abbrev one_line : Record → List ℕ
