@@ -115,8 +115,11 @@ module _ (set : Schemas) where
         (own_has levels (is_member (field_at set b i).field) (is_there v) m i (field_at set b i).field.name (printed_value set (field_at set b i).type v) (IsElsewhere v)
         (IsPlainField (field_at set b i) × ByKind (field_at set b i).field.kind (IsWhole set levels (field_at set b i).type v) (IsWholeGroup set levels (field_at set b i).type v)) (IsNull (field_at set b i).field.kind (field_at set b i).type v)
         k h.1
-        (λ own. (own.0.name, kind_has levels (printed_value set (field_at set b i).type v) (field_at set b i).field.kind (IsWhole set levels (field_at set b i).type v) (IsWholeGroup set levels (field_at set b i).type v)
-        (value_has levels (field_at set b i).type v) (group_has levels (field_at set b i).type v) own.1)))
+        (λ own. (
+          own.0.name,
+          kind_has levels (printed_value set (field_at set b i).type v) (field_at set b i).field.kind (IsWhole set levels (field_at set b i).type v) (IsWholeGroup set levels (field_at set b i).type v)
+              (value_has levels (field_at set b i).type v) (group_has levels (field_at set b i).type v) own.1,
+        )))
         (fields_have levels b (suc i) vs (member_behind (is_member (field_at set b i).field) m i) (behind_has levels (is_member (field_at set b i).field) m i k) h.2)
 
     union_has : (levels b : ℕ) (u : Union) → IsWholeUnion set levels b u → HaveLines levels Round (member_left (printed_member set b u))
@@ -124,5 +127,8 @@ module _ (set : Schemas) where
     union_has levels b (Unknown number) h = tt
     union_has levels b (Active i v) h =
         shown_has levels (is_there v || not ((field_at set b i).field.discriminant_value == 0)) (field_at set b i).field.name (printed_value set (field_at set b i).type v) _ _ h.2
-        (λ own. (own.0.name, kind_has levels (printed_value set (field_at set b i).type v) (field_at set b i).field.kind (IsWhole set levels (field_at set b i).type v) (IsWholeGroup set levels (field_at set b i).type v)
-        (value_has levels (field_at set b i).type v) (group_has levels (field_at set b i).type v) own.1))
+        (λ own. (
+          own.0.name,
+          kind_has levels (printed_value set (field_at set b i).type v) (field_at set b i).field.kind (IsWhole set levels (field_at set b i).type v) (IsWholeGroup set levels (field_at set b i).type v)
+              (value_has levels (field_at set b i).type v) (group_has levels (field_at set b i).type v) own.1,
+        ))

@@ -124,17 +124,42 @@ named_first = record { name = (omega arith, refl); floats = refl }
 
 -- `()` of the member takes a second bracket
 plain_is_whole : IsWhole set 2 (StructType 0 0) (value.Struct plain)
-plain_is_whole =
-    ((omega arith, (named_first, ((omega arith, omega arith), tt)),
-    (omega arith, refl,
-    (omega arith, tt,
-    (omega arith, refl,
-    (omega arith, tt,
-    (omega arith, refl,
-    (omega arith, tt,
-    (omega arith, (record { name = (omega arith, refl); floats = refl }, (tt, tt)),
-    refl)))))))),
-    (omega arith, refl, (record { name = (omega arith, refl); floats = refl }, (tt, tt))))
+plain_is_whole = (
+  (
+    omega arith,
+    (named_first, ((omega arith, omega arith), tt)),
+    (
+      omega arith,
+      refl,
+      (
+        omega arith,
+        tt,
+        (
+          omega arith,
+          refl,
+          (
+            omega arith,
+            tt,
+            (
+              omega arith,
+              refl,
+              (
+                omega arith,
+                tt,
+                (
+                  omega arith,
+                  (record { name = (omega arith, refl); floats = refl }, (tt, tt)),
+                  refl,
+                ),
+              ),
+            ),
+          ),
+        ),
+      ),
+    ),
+  ),
+  (omega arith, refl, (record { name = (omega arith, refl); floats = refl }, (tt, tt))),
+)
 
 one_bracket_is_too_few : IsWhole set 1 (StructType 0 0) (value.Struct plain) → ⊥
 one_bracket_is_too_few h = h.1.2.1

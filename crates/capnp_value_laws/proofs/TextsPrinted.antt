@@ -60,18 +60,22 @@ module _ (at : Layout) (k : Bracket) where
   more_said NoPart (o ∷ os) h = absurd h
   more_said (Part place name w ps) [] h = absurd h
   more_said (Part place name w ps) (o ∷ os) h =
-      let rest = more_said ps os h.1 in
-      (separator (deeper at) false ++ name_on k name (h.0.0 ++ rest.0), (h.0.0, rest.0, h.0.1, rest.1, refl),
-      with_item (deeper at) false o os (said_text (line at ++ closing k ∷ [])) ∙ item_said k name (separator (deeper at) false) h.0.0 rest.0 o (after (more_text (deeper at) false os) (said_text (line at ++ closing k ∷ []))) h.0.2 rest.2)
+      let rest = more_said ps os h.1 in (
+        separator (deeper at) false ++ name_on k name (h.0.0 ++ rest.0),
+        (h.0.0, rest.0, h.0.1, rest.1, refl),
+        with_item (deeper at) false o os (said_text (line at ++ closing k ∷ [])) ∙ item_said k name (separator (deeper at) false) h.0.0 rest.0 o (after (more_text (deeper at) false os) (said_text (line at ++ closing k ∷ []))) h.0.2 rest.2,
+      )
 
   first_said : (ps : Parts) (os : List Out) → AreItems (deeper at) k ps os → (text : List ℕ) × AreFirst at k ps text × (after (more_text (deeper at) true os) end ≡ said_text text)
   first_said NoPart [] h = (line at ++ closing k ∷ [], inr refl, refl)
   first_said NoPart (o ∷ os) h = absurd h
   first_said (Part place name w ps) [] h = absurd h
   first_said (Part place name w ps) (o ∷ os) h =
-      let rest = more_said ps os h.1 in
-      (line (deeper at) ++ name_on k name (h.0.0 ++ rest.0), (h.0.0, rest.0, h.0.1, rest.1, refl),
-      with_item (deeper at) true o os (said_text (line at ++ closing k ∷ [])) ∙ item_said k name (line (deeper at)) h.0.0 rest.0 o (after (more_text (deeper at) false os) (said_text (line at ++ closing k ∷ []))) h.0.2 rest.2)
+      let rest = more_said ps os h.1 in (
+        line (deeper at) ++ name_on k name (h.0.0 ++ rest.0),
+        (h.0.0, rest.0, h.0.1, rest.1, refl),
+        with_item (deeper at) true o os (said_text (line at ++ closing k ∷ [])) ∙ item_said k name (line (deeper at)) h.0.0 rest.0 o (after (more_text (deeper at) false os) (said_text (line at ++ closing k ∷ []))) h.0.2 rest.2,
+      )
 
 -- an empty list is `[]`, and a struct without fields `()`, also on lines
 list_said : (at : Layout) (ps : Parts) (os : List Out) → AreItems (deeper at) Square ps os → Spelt at (Items 0 ps) (list_text at os)
@@ -265,10 +269,11 @@ module _ (set : Schemas) where
     union_said : (levels b : ℕ) (u : Union) (at : Layout) (n : ℕ) → levels ≤ n → IsWholeUnion set levels b u → IsMemberText at (printed_member set b u) (member set (text_within set n) at b u)
     union_said levels b NoUnion at n k h = tt
     union_said levels b (Unknown number) at n k h = tt
-    union_said levels b (Active i v) at n k h =
-        (refl,
-        shown_said at (is_there v || not ((field_at set b i).field.discriminant_value == 0)) (field_at set b i) (printed_value set (field_at set b i).type v)
-        (part_text set (text_within set n) at (default_of (field_at set b i).field) (field_at set b i).type v)
-        (λ shown. part_said set (text_within set n) at levels (field_at set b i).field.kind (default_of (field_at set b i).field) (field_at set b i).type v (printed_value set (field_at set b i).type v)
-        (value_said levels (field_at set b i).type v at n k) (group_said levels (field_at set b i).type v at (default_of (field_at set b i).field) n k)
-        (where_shown (is_there v || not ((field_at set b i).field.discriminant_value == 0)) _ _ shown h.2).1))
+    union_said levels b (Active i v) at n k h = (
+      refl,
+      shown_said at (is_there v || not ((field_at set b i).field.discriminant_value == 0)) (field_at set b i) (printed_value set (field_at set b i).type v)
+          (part_text set (text_within set n) at (default_of (field_at set b i).field) (field_at set b i).type v)
+          (λ shown. part_said set (text_within set n) at levels (field_at set b i).field.kind (default_of (field_at set b i).field) (field_at set b i).type v (printed_value set (field_at set b i).type v)
+          (value_said levels (field_at set b i).type v at n k) (group_said levels (field_at set b i).type v at (default_of (field_at set b i).field) n k)
+          (where_shown (is_there v || not ((field_at set b i).field.discriminant_value == 0)) _ _ shown h.2).1),
+    )

@@ -109,24 +109,28 @@ parts_read : (levels whole n : ℕ) (at : Layout) (k : Bracket) (place : ℕ) (n
     → (qs : Parts) × ArePartsAlike k (Part place name w ps) qs × (parts_within (part_at (written_within levels whole) k whole) n (name_on k name (value ++ (more ++ rest))) ≡ Ok (qs, rest))
 parts_read levels whole n at k place name w NoPart value more rest h reads less is more_is =
     let read = reads.0 (deeper at) value is (more ++ rest) (more_stops at k NoPart more rest more_is) in
-    let named : Name = (whole - length (name_on k name (value ++ (more ++ rest))), name_kept k name) in
-    (Part named.0 named.1 read.0 NoPart, (same_name k name, read.1, tt),
-    parts_end (part_at (written_within levels whole) k whole) n (name_on k name (value ++ (more ++ rest))) rest (named, read.0) false (omega (arith, less)) refl
-    (part_reads levels whole k name value (more ++ rest) rest read.0 false h.0 (text_begins levels (deeper at) w value (more ++ rest) h.1 is) read.2
-    (ap (λ xs. behind_part k whole (after_blanks (xs ++ rest))) more_is ∙ end_reads at k whole rest)))
+    let named : Name = (whole - length (name_on k name (value ++ (more ++ rest))), name_kept k name) in (
+      Part named.0 named.1 read.0 NoPart,
+      (same_name k name, read.1, tt),
+      parts_end (part_at (written_within levels whole) k whole) n (name_on k name (value ++ (more ++ rest))) rest (named, read.0) false (omega (arith, less)) refl
+          (part_reads levels whole k name value (more ++ rest) rest read.0 false h.0 (text_begins levels (deeper at) w value (more ++ rest) h.1 is) read.2
+          (ap (λ xs. behind_part k whole (after_blanks (xs ++ rest))) more_is ∙ end_reads at k whole rest)),
+    )
 parts_read levels whole n at k place name w (Part other given x ps) value more rest h reads less is more_is =
     let read = reads.0 (deeper at) value is (more ++ rest) (more_stops at k (Part other given x ps) more rest more_is) in
     let named : Name = (whole - length (name_on k name (value ++ (more ++ rest))), name_kept k name) in
     let next = name_on k given (more_is.0 ++ (more_is.1 ++ rest)) in
     let begins = named_begins k given (more_is.0 ++ (more_is.1 ++ rest)) h.2.0 (text_begins levels (deeper at) x more_is.0 (more_is.1 ++ rest) h.2.1 more_is.2) in
-    let others = parts_read levels whole (n - 1) at k other given x ps more_is.0 more_is.1 rest h.2 reads.1 (omega (arith, less)) more_is.2 more_is.3 in
-    (Part named.0 named.1 read.0 others.0, (same_name k name, read.1, others.1),
-    parts_more (part_at (written_within levels whole) k whole) n (name_on k name (value ++ (more ++ rest))) next (named, read.0) true (omega (arith, less)) refl
-    (part_reads levels whole k name value (more ++ rest) next read.0 true h.0 (text_begins levels (deeper at) w value (more ++ rest) h.1 is) read.2
-    (ap (λ xs. behind_part k whole (after_blanks (xs ++ rest))) more_is.4
-    ∙ (comma_reads (deeper at) k whole (name_on k given (more_is.0 ++ more_is.1)) rest (subst Begins (sym (named_joined k given more_is.0 more_is.1 rest)) begins)
-    ∙ ap (λ xs. Ok (true, xs)) (named_joined k given more_is.0 more_is.1 rest))))
-    ∙ ap (read_as (with_part (named, read.0))) others.2)
+    let others = parts_read levels whole (n - 1) at k other given x ps more_is.0 more_is.1 rest h.2 reads.1 (omega (arith, less)) more_is.2 more_is.3 in (
+      Part named.0 named.1 read.0 others.0,
+      (same_name k name, read.1, others.1),
+      parts_more (part_at (written_within levels whole) k whole) n (name_on k name (value ++ (more ++ rest))) next (named, read.0) true (omega (arith, less)) refl
+          (part_reads levels whole k name value (more ++ rest) next read.0 true h.0 (text_begins levels (deeper at) w value (more ++ rest) h.1 is) read.2
+          (ap (λ xs. behind_part k whole (after_blanks (xs ++ rest))) more_is.4
+          ∙ (comma_reads (deeper at) k whole (name_on k given (more_is.0 ++ more_is.1)) rest (subst Begins (sym (named_joined k given more_is.0 more_is.1 rest)) begins)
+          ∙ ap (λ xs. Ok (true, xs)) (named_joined k given more_is.0 more_is.1 rest))))
+          ∙ ap (read_as (with_part (named, read.0))) others.2,
+    )
 
 -- ---- brackets ----
 
@@ -150,11 +154,13 @@ closed_at levels whole Square rest = refl
 
 none_held : (levels whole : ℕ) (at : Layout) (k : Bracket) (text rest : List ℕ) → AreFirst at k NoPart text → Held levels whole k NoPart text rest
 none_held levels whole at k text rest (inl is) = (NoPart, tt, ap (λ xs. held_at (written_within levels whole) k whole (after_blanks (xs ++ rest))) is ∙ closed_at levels whole k rest)
-none_held levels whole at k text rest (inr is) =
-    (NoPart, tt,
-    ap (λ xs. held_at (written_within levels whole) k whole (after_blanks (xs ++ rest))) is
-    ∙ (ap (λ xs. held_at (written_within levels whole) k whole (after_blanks xs)) (append_assoc (line at) (closing k ∷ []) rest)
-    ∙ (ap (held_at (written_within levels whole) k whole) (line_passes at (closing k ∷ rest)) ∙ closed_at levels whole k rest)))
+none_held levels whole at k text rest (inr is) = (
+  NoPart,
+  tt,
+  ap (λ xs. held_at (written_within levels whole) k whole (after_blanks (xs ++ rest))) is
+      ∙ (ap (λ xs. held_at (written_within levels whole) k whole (after_blanks xs)) (append_assoc (line at) (closing k ∷ []) rest)
+      ∙ (ap (held_at (written_within levels whole) k whole) (line_passes at (closing k ∷ rest)) ∙ closed_at levels whole k rest)),
+)
 
 held_by : (levels whole : ℕ) (k : Bracket) (bs : List ℕ) (ps : Parts) (rest : List ℕ) → Begins bs → parts_within (part_at (written_within levels whole) k whole) (suc (length bs)) bs ≡ Ok (ps, rest)
     → held_at (written_within levels whole) k whole (after_blanks bs) ≡ Ok (ps, rest)
@@ -166,14 +172,16 @@ held_reads levels whole at k NoPart text rest h reads is = none_held levels whol
 held_reads levels whole at k (Part place name w ps) text rest h reads is =
     let bs = name_on k name (is.0 ++ (is.1 ++ rest)) in
     let fewer : count ps < suc (length bs) =
-        omega (arith, named_longer k name (is.0 ++ (is.1 ++ rest)), front_longer is.0 (is.1 ++ rest), length-append is.1 rest, more_counted at k ps is.1 is.3) in
-    let read = parts_read levels whole (suc (length bs)) at k place name w ps is.0 is.1 rest h reads fewer is.2 is.3 in
-    (read.0, read.1,
-    ap (λ xs. held_at (written_within levels whole) k whole (after_blanks (xs ++ rest))) is.4
-    ∙ (ap (λ xs. held_at (written_within levels whole) k whole (after_blanks xs)) (append_assoc (line (deeper at)) (name_on k name (is.0 ++ is.1)) rest)
-    ∙ (ap (held_at (written_within levels whole) k whole) (line_passes (deeper at) (name_on k name (is.0 ++ is.1) ++ rest))
-    ∙ (ap (λ xs. held_at (written_within levels whole) k whole (after_blanks xs)) (named_joined k name is.0 is.1 rest)
-    ∙ held_by levels whole k bs read.0 rest (named_begins k name (is.0 ++ (is.1 ++ rest)) h.0 (text_begins levels (deeper at) w is.0 (is.1 ++ rest) h.1 is.2)) read.2))))
+    omega (arith, named_longer k name (is.0 ++ (is.1 ++ rest)), front_longer is.0 (is.1 ++ rest), length-append is.1 rest, more_counted at k ps is.1 is.3) in
+    let read = parts_read levels whole (suc (length bs)) at k place name w ps is.0 is.1 rest h reads fewer is.2 is.3 in (
+      read.0,
+      read.1,
+      ap (λ xs. held_at (written_within levels whole) k whole (after_blanks (xs ++ rest))) is.4
+          ∙ (ap (λ xs. held_at (written_within levels whole) k whole (after_blanks xs)) (append_assoc (line (deeper at)) (name_on k name (is.0 ++ is.1)) rest)
+          ∙ (ap (held_at (written_within levels whole) k whole) (line_passes (deeper at) (name_on k name (is.0 ++ is.1) ++ rest))
+          ∙ (ap (λ xs. held_at (written_within levels whole) k whole (after_blanks xs)) (named_joined k name is.0 is.1 rest)
+          ∙ held_by levels whole k bs read.0 rest (named_begins k name (is.0 ++ (is.1 ++ rest)) h.0 (text_begins levels (deeper at) w is.0 (is.1 ++ rest) h.1 is.2)) read.2))),
+    )
 
 -- ---- all ----
 
@@ -184,15 +192,19 @@ mutual
   value_reads (Fields place ps) zero whole at text h is rest stops = absurd h
   value_reads (Items place ps) zero whole at text h is rest stops = absurd h
   value_reads (Fields place ps) (suc levels) whole at text h is rest stops =
-      let held = held_reads levels whole at Round ps is.0 rest h (all_read ps levels whole Round h) is.1 in
-      (Fields (whole - length (40 ∷ (is.0 ++ rest))) held.0, held.1,
-      ap (λ xs. written_within (suc levels) whole (xs ++ rest)) is.2
-      ∙ (written_is (suc levels) whole (40 ∷ (is.0 ++ rest)) ∙ ap (read_as (bracketed_read Round (whole - length (40 ∷ (is.0 ++ rest))))) held.2))
+      let held = held_reads levels whole at Round ps is.0 rest h (all_read ps levels whole Round h) is.1 in (
+        Fields (whole - length (40 ∷ (is.0 ++ rest))) held.0,
+        held.1,
+        ap (λ xs. written_within (suc levels) whole (xs ++ rest)) is.2
+            ∙ (written_is (suc levels) whole (40 ∷ (is.0 ++ rest)) ∙ ap (read_as (bracketed_read Round (whole - length (40 ∷ (is.0 ++ rest))))) held.2),
+      )
   value_reads (Items place ps) (suc levels) whole at text h is rest stops =
-      let held = held_reads levels whole at Square ps is.0 rest h (all_read ps levels whole Square h) is.1 in
-      (Items (whole - length (91 ∷ (is.0 ++ rest))) held.0, held.1,
-      ap (λ xs. written_within (suc levels) whole (xs ++ rest)) is.2
-      ∙ (written_is (suc levels) whole (91 ∷ (is.0 ++ rest)) ∙ ap (read_as (bracketed_read Square (whole - length (91 ∷ (is.0 ++ rest))))) held.2))
+      let held = held_reads levels whole at Square ps is.0 rest h (all_read ps levels whole Square h) is.1 in (
+        Items (whole - length (91 ∷ (is.0 ++ rest))) held.0,
+        held.1,
+        ap (λ xs. written_within (suc levels) whole (xs ++ rest)) is.2
+            ∙ (written_is (suc levels) whole (91 ∷ (is.0 ++ rest)) ∙ ap (read_as (bracketed_read Square (whole - length (91 ∷ (is.0 ++ rest))))) held.2),
+      )
 
   all_read : (ps : Parts) (levels whole : ℕ) (k : Bracket) → HaveLines levels k ps → AllRead levels whole ps
   all_read NoPart levels whole k h = tt
@@ -201,7 +213,9 @@ mutual
 pub texts_read : TextsAreRead
 texts_read at w text h is =
     let read = value_reads w 64 (length text) at text h is [] refl in
-    let begins : Begins text = subst Begins (append-nil text) (text_begins 64 at w text [] h is) in
-    (read.0, read.1,
-    ap (λ xs. read_then (written_within 64 (length text) xs) (λ v. at_end (length text) v.0 (after_blanks v.1))) (no_blanks text begins ∙ sym (append-nil text))
-    ∙ ap (λ r. read_then r (λ v. at_end (length text) v.0 (after_blanks v.1))) read.2)
+    let begins : Begins text = subst Begins (append-nil text) (text_begins 64 at w text [] h is) in (
+      read.0,
+      read.1,
+      ap (λ xs. read_then (written_within 64 (length text) xs) (λ v. at_end (length text) v.0 (after_blanks v.1))) (no_blanks text begins ∙ sym (append-nil text))
+          ∙ ap (λ r. read_then r (λ v. at_end (length text) v.0 (after_blanks v.1))) read.2,
+    )
