@@ -12,7 +12,8 @@ use Rattle.capnp_value_texts.specs.Written.{NoPart, Part, Parts, Written}
 use Rattle.capnp_value_texts.specs.declared.parts.Bracket.{Bracket}
 use Rattle.capnp_value_texts.specs.declared.parts.Bracket.TheVariants.{Round, Square}
 use Rattle.capnp_value_laws.specs.Trees.{MemberPart, both_parts, member_behind, member_left, own_parts, part_if, part_later, parts_before, printed_elements, printed_fields, printed_member, printed_record, printed_value}
-use Rattle.capnp_value_laws.specs.Whole.{AreWhole, AreWholeFields, ByKind, Either, IsElsewhere, IsFieldName, IsPlainField, IsNull, IsWhole, IsWholeGroup, IsWholeRecord, IsWholeUnion}
+use Rattle.capnp_diffs.specs.Changes.{ByKind, Either}
+use Rattle.capnp_value_laws.specs.Whole.{AreWhole, AreWholeFields, IsElsewhere, IsFieldName, IsPlainField, IsNull, IsWhole, IsWholeGroup, IsWholeRecord, IsWholeUnion}
 use Rattle.capnp_value_laws.proofs.Leaves.{leaf_has_line}
 
 -- ---- names ----

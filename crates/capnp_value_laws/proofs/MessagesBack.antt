@@ -28,7 +28,7 @@ use Rattle.capnp_value_texts.specs.declared.error.Error.{Error}
 use Rattle.capnp_value_texts.specs.declared.error.Error.TheVariants as error
 use Rattle.capnp_value_laws.specs.Laws.{AreDoneToRoom, HasPlace, Lead}
 use Rattle.capnp_value_laws.specs.Messages.{IsForRoom, OnlyMakes, PrintedFieldsAreRead, PrintedRootsAreRead}
-use Rattle.capnp_value_laws.specs.Whole.{Either}
+use Rattle.capnp_diffs.specs.Changes.{Either}
 use Rattle.capnp_value_laws.proofs.ReadBack.{fields_are_made, records_made}
 
 -- ---- replies ----

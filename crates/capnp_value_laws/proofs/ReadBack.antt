@@ -21,7 +21,8 @@ use Rattle.capnp_value_texts.specs.Errors.{read_then}
 use Rattle.capnp_value_texts.specs.Written.{Fields, Written, most_levels, written}
 use Rattle.capnp_value_laws.specs.Laws.{HasPlace, Lead, PrintedFieldsAreMade, PrintedRecordsAreMade}
 use Rattle.capnp_value_laws.specs.Trees.{printed_record, printed_value}
-use Rattle.capnp_value_laws.specs.Whole.{ByKind, Either, IsWhole, IsWholeGroup, IsWholeRecord}
+use Rattle.capnp_diffs.specs.Changes.{ByKind, Either}
+use Rattle.capnp_value_laws.specs.Whole.{IsWhole, IsWholeGroup, IsWholeRecord}
 use Rattle.capnp_value_laws.proofs.CallsAlike.{alike_calls, alike_root}
 use Rattle.capnp_value_laws.proofs.CallsLead.{CallsLead, run_done, run_goes}
 use Rattle.capnp_value_laws.proofs.ValuesRead.{IsReadAs, group_read, text_read}

@@ -21,7 +21,8 @@ use Rattle.capnp_value_texts.specs.Calls.{InList, InStruct, Target, both_calls, 
 use Rattle.capnp_value_texts.specs.Errors.{Read}
 use Rattle.capnp_value_texts.specs.Written.{Fields, Items, NoPart, Part, Parts, Written}
 use Rattle.capnp_value_laws.specs.Trees.{MemberPart, both_parts, member_behind, member_left, own_parts, part_if, part_later, parts_before, printed_elements, printed_fields, printed_member, printed_record, printed_value}
-use Rattle.capnp_value_laws.specs.Whole.{AreWhole, AreWholeFields, ByKind, Either, IsElsewhere, IsPlainField, IsNull, IsWhole, IsWholeGroup, IsWholeRecord, IsWholeUnion}
+use Rattle.capnp_diffs.specs.Changes.{ByKind, Either}
+use Rattle.capnp_value_laws.specs.Whole.{AreWhole, AreWholeFields, IsElsewhere, IsPlainField, IsNull, IsWhole, IsWholeGroup, IsWholeRecord, IsWholeUnion}
 use Rattle.capnp_value_laws.proofs.CallsLead.{CallsLead}
 use Rattle.capnp_value_laws.proofs.LeavesMade.{leaf_brings, leaf_calls_are, plain_target}
 use Rattle.capnp_value_laws.proofs.NamesFound.{KnowsFields, same_number}

@@ -18,7 +18,8 @@ use Rattle.capnp_value_texts.specs.Lines.{HasLine, line_on}
 use Rattle.capnp_value_texts.specs.Written.{Written, most_levels}
 use Rattle.capnp_value_laws.specs.Texts.{IsTextOf}
 use Rattle.capnp_value_laws.specs.Trees.{printed_value}
-use Rattle.capnp_value_laws.specs.Whole.{ByKind, Either, IsWhole, IsWholeGroup}
+use Rattle.capnp_diffs.specs.Changes.{ByKind, Either}
+use Rattle.capnp_value_laws.specs.Whole.{IsWhole, IsWholeGroup}
 
 -- ---- texts ----
 

@@ -23,7 +23,8 @@ use Rattle.capnp_value_texts.specs.Values.{IsMadeOf, IsNotMadeOf}
 use Rattle.capnp_value_texts.specs.Written.{most_levels}
 use Rattle.capnp_value_texts.specs.declared.error.Error.{Error}
 use Rattle.capnp_value_texts.specs.declared.error.Error.TheVariants as error
-use Rattle.capnp_value_laws.specs.Whole.{ByKind, IsWhole, IsWholeGroup}
+use Rattle.capnp_diffs.specs.Changes.{ByKind}
+use Rattle.capnp_value_laws.specs.Whole.{IsWhole, IsWholeGroup}
 
 -- memory was refused, or a call was for room
 abbrev pub IsForRoom : Error → Type 0

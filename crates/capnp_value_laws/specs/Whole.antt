@@ -7,6 +7,7 @@ use Rattle.capnp_records.specs.Part.{value_count}
 use Rattle.capnp_records.specs.Record as value
 use Rattle.capnp_records.specs.Record.{Active, Endless, MoreValues, NoUnion, NoValues, Parts, Record, Union, Unknown, Value, Values, is_there}
 use Rattle.capnp_json_fields.specs.Marks.{is_float}
+use Rattle.capnp_diffs.specs.Changes.{ByKind, Either}
 use Rattle.capnp_words.specs.Laws.{IsWritable}
 use Rattle.capnp_value_texts.specs.Calls.{most_parts}
 use Rattle.capnp_value_texts.specs.Laws.{HasLeafNames}
@@ -33,14 +34,6 @@ IsNull kind t v = ⊥
 abbrev pub IsElsewhere : Value → Type 0
 IsElsewhere value.Elsewhere = ⊤
 IsElsewhere v = ⊥
-
-abbrev pub Either : Bool → Type 0 → Type 0 → Type 0
-Either true P Q = P
-Either false P Q = Q
-
-abbrev pub ByKind : FieldKind → (slot : Type 0) → (group : Type 0) → Type 0
-ByKind (Slot offset default) slot group = slot
-ByKind (Group node) slot group = group
 
 -- With so many brackets within one another at the most, of which `()` takes one. Each part that is printed is whole, so none of them
 -- is a null pointer; each other is as a new struct has it.
