@@ -1,5 +1,5 @@
 -- Worked rows: the texts of what is printed of values, and which values are whole.
-use Rattle.std.proofs.Common.{◌≡◌, ◌<◌, ℕ, true, false, List, [], ◌∷◌, pos, negsuc, refl, codes, map, arith}
+use Rattle.std.proofs.Common.{◌≡◌, ◌<◌, ℕ, true, false, List, [], ◌∷◌, inl, None, Some, pos, negsuc, refl, codes, map, arith}
 use Rattle.std.specs.Fmt.{debug_escape, digits}
 use Rattle.std.specs.Str.{chars, is_utf8}
 use lib.Utf8.{encode}
@@ -9,7 +9,10 @@ use Rattle.capnp_records.specs.Record as value
 use Rattle.capnp_records.specs.Record.{Active, Endless, Left, MoreValues, NoUnion, NoValues, Parts, Record, Union, Value, Values}
 use Rattle.capnp_records.specs.Text.{said_text, text_of}
 use Rattle.capnp_value_texts.specs.Lines.{line_on}
+use Rattle.capnp_value_texts.specs.Written.{Fields, Items, Leaf, NoPart, Part, Written}
+use Rattle.capnp_value_laws.specs.Texts.{IsTextOf}
 use Rattle.capnp_value_laws.specs.Trees.{printed_value}
+use Rattle.capnp_value_laws.proofs.OneLine.{one_line as only_line}
 use Rattle.capnp_value_laws.specs.Whole.{IsPlainField, IsWhole}
 
 abbrev field : List ℕ → ℕ → FieldKind → Field
@@ -116,6 +119,41 @@ null_lines = refl
 texts : map (λ (r : Record). text_of set false (StructType 0 0) (value.Struct r)) (plain ∷ with_lists ∷ with_group ∷ []) ≡ map (λ (r : Record). said_text (one_line r)) (plain ∷ with_lists ∷ with_group ∷ [])
 unfolding digits debug_escape is_utf8 chars encode
 texts = refl
+
+-- on lines; where no part is printed the bracket is closed on the next one
+on_lines : map (λ (v : Value). text_of set true (StructType 1 1) v) (value.Struct (Parts (row (value.Number (pos 1) ∷ value.Struct plain ∷ [])) NoUnion) ∷ [])
+    ≡ said_text (codes "(\n  p = 1,\n  s = (\n    a = -5,\n    v = (),\n    z = true\n  )\n)") ∷ []
+unfolding digits
+on_lines = refl
+
+nothing_on_lines : text_of set true (StructType 2 2) (value.Struct (Parts (row (value.Elsewhere ∷ value.Elsewhere ∷ [])) (Active 0 missing))) ≡ said_text (codes "(\n)")
+nothing_on_lines = refl
+
+-- ---- which texts are ones of a tree ----
+
+abbrev tree : Written
+tree = Fields 0 (Part 0 (codes "a") (Items 0 (Part 0 [] (Leaf 0 (codes "1")) (Part 0 [] (Leaf 0 (codes "2")) NoPart))) (Part 0 (codes "b") (Fields 0 NoPart) NoPart))
+
+tree_on_lines : IsTextOf (Some 0) tree (codes "(\n  a = [\n    1,\n    2\n  ],\n  b = ()\n)")
+tree_on_lines =
+    (
+      codes "\n  a = [\n    1,\n    2\n  ],\n  b = ()\n)",
+      (
+        codes "[\n    1,\n    2\n  ]",
+        codes ",\n  b = ()\n)",
+        (codes "\n    1,\n    2\n  ]", (codes "1", codes ",\n    2\n  ]", refl, (codes "2", codes "\n  ]", refl, refl, refl), refl), refl),
+        (codes "()", codes "\n)", (codes ")", inl refl, refl), refl, refl),
+        refl,
+      ),
+      refl,
+    )
+
+-- a text on lines is none on one line
+no_line : IsTextOf None (Items 0 (Part 0 [] (Leaf 0 (codes "1")) NoPart)) (codes "[\n  1\n]") → ⊥
+no_line h = differs (only_line (Items 0 (Part 0 [] (Leaf 0 (codes "1")) NoPart)) (codes "[\n  1\n]") h)
+  where
+    differs : codes "[\n  1\n]" ≡ codes "[1]" → ⊥
+    differs e = cc
 
 -- ---- which are whole ----
 
