@@ -29,6 +29,7 @@ use Rattle.capnp_value_texts.specs.declared.error.Error.TheVariants as error
 use Rattle.capnp_value_laws.specs.Laws.{AreDoneToRoom, HasPlace, Lead}
 use Rattle.capnp_value_laws.specs.Messages.{IsForRoom, OnlyMakes, PrintedFieldsAreRead, PrintedRootsAreRead}
 use Rattle.capnp_diffs.specs.Changes.{Either}
+use Rattle.capnp_value_laws.proofs.NewRecords.{part}
 use Rattle.capnp_value_laws.proofs.ReadBack.{fields_are_made, records_made}
 
 -- ---- replies ----
@@ -75,9 +76,9 @@ count_parts part (f ∷ fs) = ap suc (count_parts part fs)
 new_place : (set : Schemas) (b i : ℕ) (f : Field) → i < length (fields_of set b) → HasPlace (default_record set Endless b) f i
 new_place set b i f inside = go (is_member f)
   where
-    go : (q : Bool) → Either q ⊤ (i < value_count (non_union_parts _ (fields_of set b)))
+    go : (q : Bool) → Either q ⊤ (i < value_count (non_union_parts (part set) (fields_of set b)))
     go true = tt
-    go false = subst (λ n. i < n) (sym (count_parts _ (fields_of set b))) inside
+    go false = subst (λ n. i < n) (sym (count_parts (part set) (fields_of set b))) inside
 
 module _ (read : PrintedValuesAreRead) where
   pub roots_read : PrintedRootsAreRead
