@@ -10,6 +10,7 @@ pub mod OneLine
 pub mod PartsMade
 pub mod PlacesMade
 pub mod ReadBack
+pub mod ReadersBack
 pub mod RecordsMade
 pub mod RowsMade
 pub mod RowsPrinted

@@ -1,8 +1,10 @@
 //! What holds of what is printed of whole values, as contracts of functions that do nothing.
 ghost use Rattle.capnp_value_laws.specs.Laws.{OneLineIsOneText, PrintedFieldsAreMade, PrintedRecordsAreMade, WholeValuesArePrinted};
 ghost use Rattle.capnp_value_laws.specs.Messages.{PrintedFieldsAreRead, PrintedRootsAreRead};
+ghost use Rattle.capnp_value_laws.specs.Readers.{ReadersComeBack};
 ghost use Rattle.capnp_value_laws.specs.Texts.{TextsAreRead};
 
+use capnp_records::laws::print_law;
 use capnp_words::laws::printed_values_are_read;
 
 /// What the printer prints of a whole value is a text of its tree, on one line and on lines.
@@ -48,5 +50,13 @@ pub fn printed_roots_are_read()
 pub fn printed_fields_are_read()
     ensures { PrintedFieldsAreRead }
 {
+    printed_values_are_read();
+}
+
+/// What a reader prints of a struct whose record is whole, with any levels left, makes that record.
+pub fn readers_come_back()
+    ensures { ReadersComeBack }
+{
+    print_law();
     printed_values_are_read();
 }
