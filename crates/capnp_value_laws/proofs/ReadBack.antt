@@ -1,28 +1,22 @@
 -- What is printed of whole values is read back.
 use Rattle.std.specs.Prelude.{⊤}
-use Rattle.std.proofs.Common.{ℕ, ◌<◌, ◌≤◌, ◌≡◌, ◌⊎◌, inl, inr, refl, List, [], Bool, true, false, length, Ok, arith, ap, sym, ◌∙◌, subst}
-use Rattle.capnp_schema.specs.Accepted.{IsAccepted}
-use Rattle.capnp_schema.specs.Schema.{Field, FieldKind, Group, Schemas, Slot, TypedField, VoidValue, brand_at, field_at, fields_of, is_member}
-use Rattle.capnp_schema.specs.Types.{SchemaType, StructType}
+use Rattle.std.proofs.Common.{ℕ, ◌<◌, ◌≡◌, ◌⊎◌, inl, inr, refl, List, [], Bool, true, false, ap, ◌∙◌}
+use Rattle.capnp_schema.specs.Schema.{Field, Schemas, TypedField, brand_at, field_at, is_member}
 use Rattle.capnp_schema.proofs.FieldCounts.{few_fields_of}
-use Rattle.capnp_records.specs.Call.{Call, FieldNumber}
+use Rattle.capnp_records.specs.Call.{Call}
 use Rattle.capnp_records.specs.Default.{default_record}
 use Rattle.capnp_records.specs.Part.{value_count, with_part}
 use Rattle.capnp_records.specs.Record as value
-use Rattle.capnp_records.specs.Record.{Endless, Record, Value}
+use Rattle.capnp_records.specs.Record.{Endless, Record}
 use Rattle.capnp_records.specs.Run.{root_type}
-use Rattle.capnp_records.specs.Step.{is_group_field}
-use Rattle.capnp_records.specs.Text.{said_text, text_of}
-use Rattle.capnp_json_fields.specs.Marks.{is_float}
 use Rattle.capnp_words.specs.Laws.{PrintedValuesAreRead}
 use Rattle.capnp_diffs.proofs.Walked.{HasPlace as HasFieldPlace}
-use Rattle.capnp_value_texts.specs.Calls.{InStruct, field_of_text, field_target, most_parts, part_count, parts_calls, root_calls, root_of_text, value_calls}
+use Rattle.capnp_value_texts.specs.Calls.{InStruct, field_of_text, field_target, part_count, parts_calls, root_calls, root_of_text, value_calls}
 use Rattle.capnp_value_texts.specs.Errors.{read_then}
-use Rattle.capnp_value_texts.specs.Written.{Fields, Written, most_levels, written}
+use Rattle.capnp_value_texts.specs.Written.{Fields, most_levels, written}
 use Rattle.capnp_value_laws.specs.Laws.{HasPlace, Lead, PrintedFieldsAreMade, PrintedRecordsAreMade}
 use Rattle.capnp_value_laws.specs.Trees.{printed_record, printed_value}
-use Rattle.capnp_diffs.specs.Changes.{ByKind, Either}
-use Rattle.capnp_value_laws.specs.Whole.{IsWhole, IsWholeGroup, IsWholeRecord}
+use Rattle.capnp_diffs.specs.Changes.{Either}
 use Rattle.capnp_value_laws.proofs.CallsAlike.{alike_calls, alike_root}
 use Rattle.capnp_value_laws.proofs.CallsLead.{CallsLead, run_done, run_goes}
 use Rattle.capnp_value_laws.proofs.ValuesRead.{IsReadAs, group_read, text_read}

@@ -1,9 +1,9 @@
 -- The calls of what is printed of a whole record make it of a new one.
 use Rattle.std.specs.Prelude.{⊤}
-use Rattle.std.proofs.Common.{ℕ, zero, suc, ◌+◌, ◌<◌, ◌≤◌, ◌≡◌, inl, inr, refl, List, [], ◌∷◌, ◌++◌, length, Bool, true, false, cond, not, ◌==◌, ◌||◌, Option, None, Some, Ok, arith, ap, ap₂, sym, ◌∙◌, subst}
+use Rattle.std.proofs.Common.{ℕ, zero, suc, ◌+◌, ◌<◌, ◌≤◌, ◌≡◌, inl, inr, refl, List, [], ◌∷◌, ◌++◌, length, Bool, true, false, cond, not, ◌==◌, ◌||◌, None, Some, arith, ap, ap₂, sym, ◌∙◌, subst}
 use Rattle.std.proofs.lemmas.Bool.{ne_eqb}
 use Rattle.capnp_schema.specs.Query.{field_named, records_of}
-use Rattle.capnp_schema.specs.Schema.{FieldKind, Group, Schemas, Slot, TypedField, field_at, fields_of, is_member, node_of}
+use Rattle.capnp_schema.specs.Schema.{FieldKind, Group, Schemas, Slot, TypedField, field_at, fields_of, is_member}
 use Rattle.capnp_schema.specs.Types.{AnyPointerType, BoolType, DataType, EnumType, IntType, ListType, SchemaType, StructType, TextType, UIntType, VoidType}
 use Rattle.capnp_records.specs.Call.{Call, ElementAt, FieldNumber, Init, Initn, PathStep, Set}
 use Rattle.capnp_records.specs.Default.{default_record}
@@ -17,16 +17,16 @@ use Rattle.capnp_records.specs.Text.{stands_before}
 use Rattle.capnp_json_fields.specs.Marks.{is_float}
 use Rattle.capnp_words.specs.Laws.{IsWritable, PrintedValuesAreRead}
 use Rattle.capnp_diffs.proofs.Walked.{HasPlace, IsSolid, Nest, field_nest, with_member, with_plain, wrap}
-use Rattle.capnp_value_texts.specs.Calls.{InList, InStruct, Target, both_calls, element_target, field_target, held_calls, is_given, mark_of, most_parts, one_call, part_count, parts_calls, source_taken, value_calls}
+use Rattle.capnp_value_texts.specs.Calls.{InList, InStruct, Target, field_target, is_given, mark_of, most_parts, one_call, part_count, parts_calls, source_taken, value_calls}
 use Rattle.capnp_value_texts.specs.Errors.{Read}
 use Rattle.capnp_value_texts.specs.Written.{Fields, Items, NoPart, Part, Parts, Written}
 use Rattle.capnp_value_laws.specs.Trees.{MemberPart, both_parts, member_behind, member_left, own_parts, part_if, part_later, parts_before, printed_elements, printed_fields, printed_member, printed_record, printed_value}
 use Rattle.capnp_diffs.specs.Changes.{ByKind, Either}
-use Rattle.capnp_value_laws.specs.Whole.{AreWhole, AreWholeFields, IsElsewhere, IsPlainField, IsNull, IsWhole, IsWholeGroup, IsWholeRecord, IsWholeUnion}
+use Rattle.capnp_value_laws.specs.Whole.{AreWhole, AreWholeFields, IsElsewhere, IsWhole, IsWholeGroup, IsWholeRecord, IsWholeUnion}
 use Rattle.capnp_value_laws.proofs.CallsLead.{CallsLead}
 use Rattle.capnp_value_laws.proofs.LeavesMade.{leaf_brings, leaf_calls_are, plain_target}
 use Rattle.capnp_value_laws.proofs.NamesFound.{KnowsFields, same_number}
-use Rattle.capnp_value_laws.proofs.NewRecords.{AreNew, IsNew, fields_new, first_new, no_union_new, null_new, part, union}
+use Rattle.capnp_value_laws.proofs.NewRecords.{AreNew, fields_new, first_new, no_union_new, null_new, part, union}
 use Rattle.capnp_value_laws.proofs.PartsMade.{IsFresh, IsMade, both_count, both_nothing, both_thrice, fresh_after, fresh_more, fresh_union, given_more, made_both, made_field, made_from, made_held}
 use Rattle.capnp_value_laws.proofs.PlacesMade.{CanMake, IsLeafType, element_can, field_can, group_begins}
 
