@@ -54,14 +54,13 @@ module _ (read : PrintedValuesAreRead) where
   records_made set indented b r accepted whole =
       let (text, said, w, is, alike) = text_read set indented (root_type set b) (value.Struct r) whole in
       let ps = printed_record set b r in
-      let made = record_made read set (fields_known set accepted) r 63 b (brand_at set b).node true whole in
-      (
+      let made = record_made read set (fields_known set accepted) r 63 b (brand_at set b).node true whole in (
         text,
         said,
         made.calls,
         root_is set b text
-        ∙ (ap (λ x. read_then x (root_calls set b)) is
-        ∙ alike_root set b (Fields 0 ps) w made.calls alike (few_read 0 (part_count ps) (parts_calls set ps (InStruct b) 0 []) (record_count set r 63 b whole (few_fields_of set accepted.rule3 b)) ∙ made.read)),
+            ∙ (ap (λ x. read_then x (root_calls set b)) is
+            ∙ alike_root set b (Fields 0 ps) w made.calls alike (few_read 0 (part_count ps) (parts_calls set ps (InStruct b) 0 []) (record_count set r 63 b whole (few_fields_of set accepted.rule3 b)) ∙ made.read)),
         lead_run set b made.calls (default_record set Endless b) r made.leads,
       )
 
@@ -70,13 +69,12 @@ module _ (read : PrintedValuesAreRead) where
       let f = field_at set b i in
       let has : IsReadAs set indented f.type v = by_kind f.field.kind (λ slot held. text_read set indented f.type v held) (λ group held. group_read set indented f.type v held) whole in
       let (text, said, w, is, alike) = has in
-      let made = field_made read set (fields_known set accepted) v most_levels b (brand_at set b).node i true old inside (place_of old f.field i place) plain whole in
-      (
+      let made = field_made read set (fields_known set accepted) v most_levels b (brand_at set b).node i true old inside (place_of old f.field i place) plain whole in (
         text,
         said,
         made.calls,
         field_is set f i text
-        ∙ (ap (λ x. read_then x (λ y. value_calls set y (field_target f i))) is
-        ∙ alike_calls set (printed_value set f.type v) w (field_target f i) made.calls alike made.read),
+            ∙ (ap (λ x. read_then x (λ y. value_calls set y (field_target f i))) is
+            ∙ alike_calls set (printed_value set f.type v) w (field_target f i) made.calls alike made.read),
         lead_run set b made.calls old (with_part old f.field i v) made.leads,
       )

@@ -46,7 +46,12 @@ of_group = refl
 
 -- there is a run of them from the new record
 plain_run : Run set 0 (default_record set Endless 0) (plain_calls []) (Done ∷ Done ∷ Done ∷ []) plain
-plain_run =
-    (of_parts (value.Number (negsuc 4)) missing missing missing (value.Truth false) (Active 2 value.Void), (refl, refl),
-    (of_parts (value.Number (negsuc 4)) missing missing missing (value.Truth false) (Active 2 value.Void), (refl, refl),
-    (plain, (refl, refl), refl)))
+plain_run = (
+  of_parts (value.Number (negsuc 4)) missing missing missing (value.Truth false) (Active 2 value.Void),
+  (refl, refl),
+  (
+    of_parts (value.Number (negsuc 4)) missing missing missing (value.Truth false) (Active 2 value.Void),
+    (refl, refl),
+    (plain, (refl, refl), refl),
+  ),
+)
