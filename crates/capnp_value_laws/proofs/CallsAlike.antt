@@ -1,6 +1,5 @@
 -- What is written alike has the same calls, wherever it stands.
-use Rattle.std.specs.Prelude.{⊤}
-use Rattle.std.proofs.Common.{ℕ, suc, ◌-◌, ◌≡◌, refl, List, [], ◌∷◌, ◌++◌, length, Bool, true, false, cond, ◌==◌, nat_lt, Option, None, Some, Ok, Err, ap, ap₂, sym, ◌∙◌, subst}
+use Rattle.std.proofs.Common.{ℕ, suc, ◌≡◌, refl, List, [], ◌∷◌, ◌++◌, Bool, true, false, cond, ◌==◌, nat_lt, Option, None, Some, Ok, Err, ap, ap₂, sym, ◌∙◌, subst}
 use Rattle.capnp_schema.specs.Query.{field_named, records_of}
 use Rattle.capnp_schema.specs.Schema.{Schemas, field_at}
 use Rattle.capnp_schema.specs.Types.{AnyPointerType, BoolType, DataType, EnumType, IntType, ListType, SchemaType, StructType, TextType, UIntType, VoidType}
@@ -8,7 +7,7 @@ use Rattle.capnp_records.specs.Call.{Call, PathStep, Set, VoidSource}
 use Rattle.capnp_words.specs.Marked.{marked_value_by_word}
 use Rattle.capnp_words.specs.Reads as word
 use Rattle.capnp_records.specs.Record.{Value}
-use Rattle.capnp_value_texts.specs.Calls.{Holder, InList, InStruct, PartsMake, Target, all_behind, at_place, begun, both_calls, counted, element_target, field_given, field_target, fields_calls, held_calls, is_given, items_calls, leaf_calls, list_begun, mark_of, most_parts, named_target, one_call, part_calls, part_count, parts_calls, root_calls, set_call, target_of, value_calls, void_calls}
+use Rattle.capnp_value_texts.specs.Calls.{Holder, InList, InStruct, PartsMake, Target, all_behind, at_place, begun, both_calls, counted, element_target, field_target, fields_calls, held_calls, is_given, items_calls, leaf_calls, list_begun, mark_of, most_parts, named_target, one_call, part_calls, part_count, parts_calls, root_calls, set_call, target_of, value_calls, void_calls}
 use Rattle.capnp_value_texts.specs.Errors.{Read, read_as, refused}
 use Rattle.capnp_value_laws.specs.Texts.{AreAlike, ArePartsAlike}
 use Rattle.capnp_value_texts.specs.Written.{Fields, Items, Leaf, NoPart, Part, Parts, Written}

@@ -1,17 +1,15 @@
 -- The call of what is printed of a leaf, and what it gives.
-use Rattle.std.specs.Prelude.{⊤}
-use Rattle.std.proofs.Common.{pos, negsuc, decimal, codes, flat_map, slice_get, ◌≡◌, ℕ, zero, suc, ◌<◌, List, [], ◌∷◌, ◌++◌, ◌==◌, Bool, true, false, cond, None, Ok, refl, ap, sym, ◌∙◌, arith}
-use Rattle.std.specs.Fmt.{debug_escape, signed_decimal}
+use Rattle.std.proofs.Common.{pos, negsuc, codes, ◌≡◌, ℕ, List, ◌==◌, Bool, true, false, cond, Ok, refl, ap, sym, ◌∙◌}
+use Rattle.std.specs.Fmt.{signed_decimal}
 use Rattle.std.proofs.lemmas.Bool.{eq-eqb, true≢false}
 use Rattle.capnp_device.specs.declared.error.ErrorKind.TheVariants.{TypeMismatch}
 use Rattle.capnp_schema.specs.Schema.{Schemas}
-use Rattle.capnp_schema.specs.Types.{AnyPointerType, BoolType, DataType, EnumType, IntType, ListType, SchemaType, StructType, TextType, UIntType, VoidType}
+use Rattle.capnp_schema.specs.Types.{BoolType, DataType, EnumType, IntType, SchemaType, TextType, UIntType, VoidType}
 use Rattle.capnp_records.specs.Call.{PathStep, Set}
-use Rattle.capnp_records.specs.Facts.Frame.{chosen_first}
 use Rattle.capnp_records.specs.Given.{Fails, Gives}
 use Rattle.capnp_records.specs.Record as value
 use Rattle.capnp_records.specs.Record.{Value}
-use Rattle.capnp_records.specs.Text.{data_text, enum_text, quoted_text, said_text}
+use Rattle.capnp_records.specs.Text.{data_text, enum_text}
 use Rattle.capnp_words.specs.Laws.{IsWritable, PrintedValuesAreRead}
 use Rattle.capnp_words.specs.Marked.{marked_value_by_word}
 use Rattle.capnp_words.specs.Values.{value_by_word}

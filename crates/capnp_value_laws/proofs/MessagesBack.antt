@@ -1,6 +1,6 @@
 -- Messages that are made of what is printed of whole values.
 use Rattle.std.specs.Prelude.{⊤}
-use Rattle.std.proofs.Common.{ℕ, suc, ◌<◌, ◌≡◌, ◌⊎◌, inl, inr, refl, List, [], ◌∷◌, length, map, Bool, true, false, Option, None, Some, Ok, arith, ap, sym, ◌∙◌, subst}
+use Rattle.std.proofs.Common.{ℕ, suc, ◌<◌, ◌≡◌, ◌⊎◌, inl, inr, refl, List, [], ◌∷◌, length, map, Bool, true, false, None, Some, Ok, ap, sym, ◌∙◌, subst}
 use Rattle.capnp_device.specs.declared.error.ErrorKind.{ErrorKind}
 use Rattle.capnp_device.specs.declared.error.ErrorKind.TheVariants.{OutOfMemory, SizePastFormat}
 use Rattle.capnp_wire.specs.Edits.{struct_in}
@@ -9,7 +9,7 @@ use Rattle.capnp_schema.specs.FieldLists.{field_schema, index_of, typed_of}
 use Rattle.capnp_schema.specs.Schema.{Field, Schemas, TypedField, fields_of, is_member}
 use Rattle.capnp_schema.specs.StructHandles.{number_of, set_of}
 use Rattle.capnp_schema.specs.declared.schema.structs.StructSchema.{StructSchema}
-use Rattle.capnp_records.specs.Call.{Call, Done, Flag, GivesValue, Member, Refused, Reply}
+use Rattle.capnp_records.specs.Call.{Call, Refused, Reply}
 use Rattle.capnp_records.specs.Default.{default_record}
 use Rattle.capnp_records.specs.Facts.Spelled.{same_said}
 use Rattle.capnp_records.specs.Part.{value_count}

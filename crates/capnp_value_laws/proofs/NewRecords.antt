@@ -1,12 +1,10 @@
 -- What a new record has: nothing behind its pointers, and its first member active.
 use Rattle.std.specs.Prelude.{⊤}
-use Rattle.std.proofs.Common.{ℕ, zero, suc, ◌+◌, ◌*◌, ◌<◌, ◌≡◌, refl, List, [], ◌∷◌, get_or, length, map, slice_get, Bool, true, false, cond, nat_lt, ◌==◌, ◌&&◌, Option, None, Some, arith, ap, ap₂, sym, ◌∙◌, subst}
-use Rattle.std.proofs.lemmas.Bool.{true≢false}
-use Rattle.std.proofs.lemmas.List.{get_or-map, length-map}
+use Rattle.std.proofs.Common.{ℕ, zero, suc, ◌+◌, ◌*◌, ◌<◌, ◌≡◌, refl, List, [], ◌∷◌, get_or, length, map, slice_get, true, false, ◌==◌, Some, arith, ap, ap₂, sym, ◌∙◌, subst}
 use Rattle.std.proofs.lemmas.List.Quantifiers.{position-Some}
 use Rattle.std.specs.Option.{unwrap_or}
 use Rattle.capnp_schema.specs.Query.{is_member_of, member_of, records_of}
-use Rattle.capnp_schema.specs.Schema.{Field, FieldKind, Group, Schemas, Slot, TypedField, field_at, fields_of, is_member, no_field, node_of}
+use Rattle.capnp_schema.specs.Schema.{FieldKind, Group, Schemas, Slot, TypedField, field_at, fields_of, is_member, no_field, node_of}
 use Rattle.capnp_schema.specs.Types.{SchemaType, is_pointer}
 use Rattle.capnp_records.specs.Facts.Frame.{chosen_first, second_of}
 use Rattle.capnp_records.specs.Facts.GroupWrite.{bits_at_empty}

@@ -1,14 +1,13 @@
 -- The calls of parts, one after another: each is found, and what is given once isn't given again.
-use Rattle.std.specs.Prelude.{⊤}
-use Rattle.std.proofs.Common.{ℕ, zero, suc, ◌+◌, ◌<◌, ◌≤◌, ◌≡◌, ◌≢◌, refl, List, [], ◌∷◌, ◌++◌, Bool, true, false, cond, nat_lt, ◌==◌, ◌||◌, Option, None, Some, Ok, arith, ap, ap₂, sym, ◌∙◌, subst}
+use Rattle.std.proofs.Common.{ℕ, suc, ◌+◌, ◌<◌, ◌≤◌, ◌≡◌, refl, List, [], ◌∷◌, ◌++◌, Bool, true, false, cond, nat_lt, ◌==◌, ◌||◌, Some, Ok, arith, ap, ap₂, ◌∙◌}
 use Rattle.std.proofs.lemmas.Bool.{le-ltb, ne_eqb, true≢false}
 use Rattle.capnp_schema.specs.Query.{field_named, records_of}
-use Rattle.capnp_schema.specs.Schema.{Schemas, TypedField, field_at, is_member}
+use Rattle.capnp_schema.specs.Schema.{Schemas, TypedField, field_at}
 use Rattle.capnp_schema.specs.Types.{SchemaType}
-use Rattle.capnp_records.specs.Call.{Call, ElementAt, PathStep}
+use Rattle.capnp_records.specs.Call.{Call, PathStep}
 use Rattle.capnp_records.specs.Record.{Value}
 use Rattle.capnp_diffs.proofs.Walked.{IsSolid, Nest}
-use Rattle.capnp_value_texts.specs.Calls.{InList, InStruct, Target, all_behind, both_calls, counted, element_target, field_given, field_target, held_calls, is_given, mark_of, most_parts, named_target, part_calls, part_count, parts_calls, target_of, value_calls}
+use Rattle.capnp_value_texts.specs.Calls.{InStruct, Target, all_behind, both_calls, counted, field_target, held_calls, is_given, mark_of, most_parts, named_target, part_calls, part_count, parts_calls, target_of, value_calls}
 use Rattle.capnp_value_texts.specs.Errors.{Read, read_as, refused}
 use Rattle.capnp_value_texts.specs.Written.{NoPart, Part, Parts, Written}
 use Rattle.capnp_value_texts.specs.declared.error.RefusalKind.TheVariants.{GivenTwice, SizePastFormat}

@@ -1,17 +1,17 @@
 -- What calls make at a field of a record and at an element of a list.
 use Rattle.std.specs.Prelude.{⊤}
-use Rattle.std.proofs.Common.{ℕ, ◌<◌, ◌≡◌, inl, inr, refl, List, [], ◌∷◌, length, Bool, true, false, cond, nat_lt, Option, None, Some, Ok, Err, ap, sym, ◌∙◌, subst}
+use Rattle.std.proofs.Common.{ℕ, ◌<◌, ◌≡◌, inl, inr, refl, [], length, Bool, true, false, cond, nat_lt, Option, None, Some, Ok, Err, ap, sym, ◌∙◌, subst}
 use Rattle.std.proofs.lemmas.Bool.{lt-ltb, true≢false}
 use Rattle.capnp_device.specs.declared.error.ErrorKind.{ErrorKind}
 use Rattle.capnp_device.specs.declared.error.ErrorKind.TheVariants.{NoSuchElement}
 use Rattle.capnp_schema.specs.Types.{AnyPointerType, ListType, SchemaType, StructType}
 use Rattle.capnp_schema.specs.Schema.{Schemas, TypedField, field_at, fields_of}
-use Rattle.capnp_records.specs.Call.{Call, Done, ElementAt, FieldNumber, Init, Initn, Op, PathStep, Reply, Set, Source}
+use Rattle.capnp_records.specs.Call.{Call, ElementAt, FieldNumber, Init, Initn, Op, PathStep, Reply, Set, Source}
 use Rattle.capnp_records.specs.Default.{default_record}
 use Rattle.capnp_records.specs.Facts.Frame.{chosen_first}
-use Rattle.capnp_records.specs.Given.{Copies, CopiesGroup, Fails, Given, Gives, copy_refusal, given_element, given_part, given_slot}
+use Rattle.capnp_records.specs.Given.{Copies, CopiesGroup, Fails, Given, Gives, copy_refusal, given_element, given_slot}
 use Rattle.capnp_records.specs.Operation.{CopiesWhole, Does, DoesAt, Initns, Inits, IsDone, Makes, Sets, elements_past, new_element}
-use Rattle.capnp_records.specs.Part.{nth_value, value_count, with_part, with_value}
+use Rattle.capnp_records.specs.Part.{value_count, with_part, with_value}
 use Rattle.capnp_records.specs.Record as value
 use Rattle.capnp_records.specs.Record.{Endless, Record, Value, Values, values_from}
 use Rattle.capnp_records.specs.Step.{StepTarget, element_target, field_target, is_group_field, step_target, walked_by_type, walked_result}

@@ -1,9 +1,9 @@
 -- The calls of what is printed of a whole record make it of a new one.
 use Rattle.std.specs.Prelude.{⊤}
-use Rattle.std.proofs.Common.{ℕ, zero, suc, ◌+◌, ◌<◌, ◌≤◌, ◌≡◌, inl, inr, refl, List, [], ◌∷◌, ◌++◌, length, Bool, true, false, cond, not, ◌==◌, ◌||◌, Option, None, Some, Ok, arith, ap, ap₂, sym, ◌∙◌, subst}
+use Rattle.std.proofs.Common.{ℕ, zero, suc, ◌+◌, ◌<◌, ◌≤◌, ◌≡◌, inl, inr, refl, List, [], ◌∷◌, ◌++◌, length, Bool, true, false, cond, not, ◌==◌, ◌||◌, None, Some, arith, ap, ap₂, sym, ◌∙◌, subst}
 use Rattle.std.proofs.lemmas.Bool.{ne_eqb}
 use Rattle.capnp_schema.specs.Query.{field_named, records_of}
-use Rattle.capnp_schema.specs.Schema.{FieldKind, Group, Schemas, Slot, TypedField, field_at, fields_of, is_member, node_of}
+use Rattle.capnp_schema.specs.Schema.{FieldKind, Group, Schemas, Slot, TypedField, field_at, fields_of, is_member}
 use Rattle.capnp_schema.specs.Types.{AnyPointerType, BoolType, DataType, EnumType, IntType, ListType, SchemaType, StructType, TextType, UIntType, VoidType}
 use Rattle.capnp_records.specs.Call.{Call, ElementAt, FieldNumber, Init, Initn, PathStep, Set}
 use Rattle.capnp_records.specs.Default.{default_record}
@@ -17,16 +17,16 @@ use Rattle.capnp_records.specs.Text.{stands_before}
 use Rattle.capnp_json_fields.specs.Marks.{is_float}
 use Rattle.capnp_words.specs.Laws.{IsWritable, PrintedValuesAreRead}
 use Rattle.capnp_diffs.proofs.Walked.{HasPlace, IsSolid, Nest, field_nest, with_member, with_plain, wrap}
-use Rattle.capnp_value_texts.specs.Calls.{InList, InStruct, Target, both_calls, element_target, field_target, held_calls, is_given, mark_of, most_parts, one_call, part_count, parts_calls, source_taken, value_calls}
+use Rattle.capnp_value_texts.specs.Calls.{InList, InStruct, Target, field_target, is_given, mark_of, most_parts, one_call, part_count, parts_calls, source_taken, value_calls}
 use Rattle.capnp_value_texts.specs.Errors.{Read}
 use Rattle.capnp_value_texts.specs.Written.{Fields, Items, NoPart, Part, Parts, Written}
 use Rattle.capnp_value_laws.specs.Trees.{MemberPart, both_parts, member_behind, member_left, own_parts, part_if, part_later, parts_before, printed_elements, printed_fields, printed_member, printed_record, printed_value}
 use Rattle.capnp_diffs.specs.Changes.{ByKind, Either}
-use Rattle.capnp_value_laws.specs.Whole.{AreWhole, AreWholeFields, IsElsewhere, IsPlainField, IsNull, IsWhole, IsWholeGroup, IsWholeRecord, IsWholeUnion}
+use Rattle.capnp_value_laws.specs.Whole.{AreWhole, AreWholeFields, IsElsewhere, IsWhole, IsWholeGroup, IsWholeRecord, IsWholeUnion}
 use Rattle.capnp_value_laws.proofs.CallsLead.{CallsLead}
 use Rattle.capnp_value_laws.proofs.LeavesMade.{leaf_brings, leaf_calls_are, plain_target}
 use Rattle.capnp_value_laws.proofs.NamesFound.{KnowsFields, same_number}
-use Rattle.capnp_value_laws.proofs.NewRecords.{AreNew, IsNew, fields_new, first_new, no_union_new, null_new, part, union}
+use Rattle.capnp_value_laws.proofs.NewRecords.{AreNew, fields_new, first_new, no_union_new, null_new, part, union}
 use Rattle.capnp_value_laws.proofs.PartsMade.{IsFresh, IsMade, both_count, both_nothing, both_thrice, fresh_after, fresh_more, fresh_union, given_more, made_both, made_field, made_from, made_held}
 use Rattle.capnp_value_laws.proofs.PlacesMade.{CanMake, IsLeafType, element_can, field_can, group_begins}
 
@@ -390,23 +390,23 @@ module _ (read : PrintedValuesAreRead) (set : Schemas) (known : KnowsFields set)
         let few_here = known.few b in
         let inside = whole.0 in
         let next : (x : Union) (rest : MemberPart) (n : ℕ) (marks : List ℕ) → IsPending set b g k rest x w marks → IsFresh (suc i) marks →
-            IsMade set (StructType b g) (wrap k (value.Parts (joined (with_last ds v) es) x)) (parts_calls set (printed_fields set b (value_count (with_last ds v)) vs rest) (InStruct b) n marks) (wrap k (value.Parts (joined (with_last ds v) vs) w)) =
-            λ x rest n marks comes free. fields_made vs es (with_last ds v) x w rest levels b g k n marks (subst (λ j. AreWholeFields set levels b j vs) (sym (count_last ds v)) whole.2)
-            (subst (λ j. AreNew set b j es) (sym (count_last ds v)) new.3) comes (subst (λ j. IsFresh j marks) (sym (count_last ds v)) free) in
+        IsMade set (StructType b g) (wrap k (value.Parts (joined (with_last ds v) es) x)) (parts_calls set (printed_fields set b (value_count (with_last ds v)) vs rest) (InStruct b) n marks) (wrap k (value.Parts (joined (with_last ds v) vs) w)) =
+        λ x rest n marks comes free. fields_made vs es (with_last ds v) x w rest levels b g k n marks (subst (λ j. AreWholeFields set levels b j vs) (sym (count_last ds v)) whole.2)
+        (subst (λ j. AreNew set b j es) (sym (count_last ds v)) new.3) comes (subst (λ j. IsFresh j marks) (sym (count_last ds v)) free) in
         by_test (is_member (field_at set b i).field)
         (λ member is. elsewhere_made set b g k ds v e es vs u w m index given member (new.1 member ∙ sym (elsewhere_is v is)) (next u m index given pending (fresh_after i given fresh)))
         (λ plain is. plain_made set b g k ds v e es vs u w m index given plain pending fresh (λ x n marks free comes.
-            by_test (is_there v)
-            (λ there has. shown_made set b g k ds v e es vs x w (part_later m i) n marks there plain (known.found b i inside) (free i (omega arith) (omega (arith, few_here, inside)))
-                (part_made set b g k i (value.Parts (joined ds (MoreValues e es)) x) v has.0.floats (by_kind (field_at set b i).field.kind
-                (λ slot held. value_made v (field_at set b i).type levels (StructType b g) (FieldNumber i) false (wrap k (value.Parts (joined ds (MoreValues e es)) x)) (λ y. wrap k (with_part (value.Parts (joined ds (MoreValues e es)) x) (field_at set b i).field i y)) held
-                (field_can set b g i k (value.Parts (joined ds (MoreValues e es)) x) inside slot (inr (plain, inside_joined ds e es))))
-                (λ group held. group_made v (field_at set b i).type levels b g i k (value.Parts (joined ds (MoreValues e es)) x) refl inside (inr (plain, inside_joined ds e es)) group held)
-                has.1))
-                (next_made set b g k ds v e es vs x w (part_later m i) (suc n) (marks ++ i ∷ []) (next x (part_later m i) (suc n) (marks ++ i ∷ []) (pending_more set b g k (part_later m i) x w marks i (omega (arith, few_here, inside)) comes) (fresh_more i marks free))))
-            (λ none null. null_made set b g k ds v e es vs x w (part_later m i) n marks none (null_new (field_at set b i).field.kind (field_at set b i).type v e null (new.2 plain))
-                (next_made set b g k ds v e es vs x w (part_later m i) n marks (next x (part_later m i) n marks comes (fresh_after i marks free))))
-            is))
+        by_test (is_there v)
+        (λ there has. shown_made set b g k ds v e es vs x w (part_later m i) n marks there plain (known.found b i inside) (free i (omega arith) (omega (arith, few_here, inside)))
+        (part_made set b g k i (value.Parts (joined ds (MoreValues e es)) x) v has.0.floats (by_kind (field_at set b i).field.kind
+        (λ slot held. value_made v (field_at set b i).type levels (StructType b g) (FieldNumber i) false (wrap k (value.Parts (joined ds (MoreValues e es)) x)) (λ y. wrap k (with_part (value.Parts (joined ds (MoreValues e es)) x) (field_at set b i).field i y)) held
+        (field_can set b g i k (value.Parts (joined ds (MoreValues e es)) x) inside slot (inr (plain, inside_joined ds e es))))
+        (λ group held. group_made v (field_at set b i).type levels b g i k (value.Parts (joined ds (MoreValues e es)) x) refl inside (inr (plain, inside_joined ds e es)) group held)
+        has.1))
+        (next_made set b g k ds v e es vs x w (part_later m i) (suc n) (marks ++ i ∷ []) (next x (part_later m i) (suc n) (marks ++ i ∷ []) (pending_more set b g k (part_later m i) x w marks i (omega (arith, few_here, inside)) comes) (fresh_more i marks free))))
+        (λ none null. null_made set b g k ds v e es vs x w (part_later m i) n marks none (null_new (field_at set b i).field.kind (field_at set b i).type v e null (new.2 plain))
+        (next_made set b g k ds v e es vs x w (part_later m i) n marks (next x (part_later m i) n marks comes (fresh_after i marks free))))
+        is))
         whole.1
 
     union_made : (w : Union) (levels b g : ℕ) (k : Bool) → IsWholeUnion set levels b w → IsPending set b g k (printed_member set b w) (union set b) w []
@@ -415,14 +415,19 @@ module _ (read : PrintedValuesAreRead) (set : Schemas) (known : KnowsFields set)
     union_made (Active i v) levels b g k whole =
         let f = field_at set b i in
         by_test (is_there v || not (f.field.discriminant_value == 0))
-        (λ shown has. subst (λ q. IsPendingPart set b g k (part_if q f.field.name (printed_value set f.type v)) i (union set b) (Active i v) []) (sym shown)
-            (refl, known.found b i whole.0, whole.1, refl, λ xs x.
-            made_from set (StructType b g) _ _ _ _ (value_calls set (printed_value set f.type v) (field_target f i)) (value_calls set (printed_value set f.type v) (field_target f i)) refl
-            (ap (wrap k) (with_member f.field i xs x v whole.1)) refl
-            (part_made set b g k i (value.Parts xs x) v has.0.floats (by_kind f.field.kind
-            (λ slot held. value_made v f.type levels (StructType b g) (FieldNumber i) false (wrap k (value.Parts xs x)) (λ y. wrap k (with_part (value.Parts xs x) f.field i y)) held (field_can set b g i k (value.Parts xs x) whole.0 slot (inl whole.1)))
-            (λ group held. group_made v f.type levels b g i k (value.Parts xs x) refl whole.0 (inl whole.1) group held)
-            has.1))))
+        (λ shown has. subst (λ q. IsPendingPart set b g k (part_if q f.field.name (printed_value set f.type v)) i (union set b) (Active i v) []) (sym shown) (
+          refl,
+          known.found b i whole.0,
+          whole.1,
+          refl,
+          λ xs x.
+              made_from set (StructType b g) _ _ _ _ (value_calls set (printed_value set f.type v) (field_target f i)) (value_calls set (printed_value set f.type v) (field_target f i)) refl
+              (ap (wrap k) (with_member f.field i xs x v whole.1)) refl
+              (part_made set b g k i (value.Parts xs x) v has.0.floats (by_kind f.field.kind
+              (λ slot held. value_made v f.type levels (StructType b g) (FieldNumber i) false (wrap k (value.Parts xs x)) (λ y. wrap k (with_part (value.Parts xs x) f.field i y)) held (field_can set b g i k (value.Parts xs x) whole.0 slot (inl whole.1)))
+              (λ group held. group_made v f.type levels b g i k (value.Parts xs x) refl whole.0 (inl whole.1) group held)
+              has.1)),
+        ))
         (λ unshown has. subst (λ q. IsPendingPart set b g k (part_if q f.field.name (printed_value set f.type v)) i (union set b) (Active i v) []) (sym unshown) (first_new set b i v whole.0 has (known.counted b i whole.0 whole.1) (known.first b i whole.0 whole.1 (none_shown (is_there v) f.field.discriminant_value unshown))))
         whole.2
 

@@ -1,9 +1,9 @@
 -- Worked rows: the calls of what is printed of records, and a run of them.
-use Rattle.std.proofs.Common.{◌≡◌, ℕ, true, false, List, [], ◌∷◌, Ok, pos, negsuc, refl, codes}
+use Rattle.std.proofs.Common.{◌≡◌, true, false, List, [], ◌∷◌, Ok, pos, negsuc, refl, codes}
 use Rattle.std.specs.Char.{encode_utf8}
 use Rattle.std.specs.Fmt.{debug_escape, digits}
 use Rattle.capnp_schema.specs.Types.{StructType}
-use Rattle.capnp_records.specs.Call.{BoolSource, Call, Done, ElementAt, EnumSource, FieldNumber, Init, Initn, IntSource, Op, PathStep, Refused, Reply, Set, TextSource, UIntSource, VoidSource}
+use Rattle.capnp_records.specs.Call.{BoolSource, Call, Done, ElementAt, EnumSource, FieldNumber, Init, Initn, IntSource, Op, PathStep, Set, TextSource, UIntSource, VoidSource}
 use Rattle.capnp_records.specs.Default.{default_record}
 use Rattle.capnp_records.specs.Record as value
 use Rattle.capnp_records.specs.Record.{Active, Endless, Record}
@@ -46,7 +46,12 @@ of_group = refl
 
 -- there is a run of them from the new record
 plain_run : Run set 0 (default_record set Endless 0) (plain_calls []) (Done ∷ Done ∷ Done ∷ []) plain
-plain_run =
-    (of_parts (value.Number (negsuc 4)) missing missing missing (value.Truth false) (Active 2 value.Void), (refl, refl),
-    (of_parts (value.Number (negsuc 4)) missing missing missing (value.Truth false) (Active 2 value.Void), (refl, refl),
-    (plain, (refl, refl), refl)))
+plain_run = (
+  of_parts (value.Number (negsuc 4)) missing missing missing (value.Truth false) (Active 2 value.Void),
+  (refl, refl),
+  (
+    of_parts (value.Number (negsuc 4)) missing missing missing (value.Truth false) (Active 2 value.Void),
+    (refl, refl),
+    (plain, (refl, refl), refl),
+  ),
+)

@@ -135,18 +135,17 @@ abbrev tree : Written
 tree = Fields 0 (Part 0 (codes "a") (Items 0 (Part 0 [] (Leaf 0 (codes "1")) (Part 0 [] (Leaf 0 (codes "2")) NoPart))) (Part 0 (codes "b") (Fields 0 NoPart) NoPart))
 
 tree_on_lines : IsTextOf (Some 0) tree (codes "(\n  a = [\n    1,\n    2\n  ],\n  b = ()\n)")
-tree_on_lines =
-    (
-      codes "\n  a = [\n    1,\n    2\n  ],\n  b = ()\n)",
-      (
-        codes "[\n    1,\n    2\n  ]",
-        codes ",\n  b = ()\n)",
-        (codes "\n    1,\n    2\n  ]", (codes "1", codes ",\n    2\n  ]", refl, (codes "2", codes "\n  ]", refl, refl, refl), refl), refl),
-        (codes "()", codes "\n)", (codes ")", inl refl, refl), refl, refl),
-        refl,
-      ),
-      refl,
-    )
+tree_on_lines = (
+  codes "\n  a = [\n    1,\n    2\n  ],\n  b = ()\n)",
+  (
+    codes "[\n    1,\n    2\n  ]",
+    codes ",\n  b = ()\n)",
+    (codes "\n    1,\n    2\n  ]", (codes "1", codes ",\n    2\n  ]", refl, (codes "2", codes "\n  ]", refl, refl, refl), refl), refl),
+    (codes "()", codes "\n)", (codes ")", inl refl, refl), refl, refl),
+    refl,
+  ),
+  refl,
+)
 
 -- a text on lines is none on one line
 no_line : IsTextOf None (Items 0 (Part 0 [] (Leaf 0 (codes "1")) NoPart)) (codes "[\n  1\n]") → ⊥
