@@ -4,10 +4,9 @@ use Rattle.std.specs.Prelude.{⊤}
 use Rattle.capnp_json_text.specs.Readings.{after_blanks}
 use Rattle.capnp_records.specs.Text.{Layout, deeper, line, separator}
 use Rattle.capnp_value_texts.specs.Errors.{read_as, read_then}
-use Rattle.capnp_value_texts.specs.Lengths.{is_end, leaf_length}
+use Rattle.capnp_value_texts.specs.Lengths.{is_end, plain_length}
 use Rattle.capnp_value_texts.specs.Lines.{HasLine, HaveLines, IsNamed, name_kept, name_on}
 use Rattle.capnp_value_texts.specs.Written.{Fields, Items, Leaf, Name, NoPart, Part, Parts, Written, at_end, behind_part, bracketed_read, closing, held_at, part_at, part_behind, parts_within, with_part, written, written_within}
-use Rattle.capnp_value_texts.specs.declared.lengths.Within.TheVariants.{Plain}
 use Rattle.capnp_value_texts.specs.declared.parts.Bracket.{Bracket}
 use Rattle.capnp_value_texts.specs.declared.parts.Bracket.TheVariants.{Round, Square}
 use Rattle.capnp_value_texts.proofs.Grammar.{parts_end, parts_more, written_is}
@@ -44,25 +43,25 @@ named_joined : (k : Bracket) (name xs ys zs : List ℕ) → name_on k name (xs +
 named_joined Round name xs ys zs = append_assoc name (32 ∷ 61 ∷ 32 ∷ (xs ++ ys)) zs ∙ ap (λ (us : List ℕ). name ++ (32 ∷ 61 ∷ 32 ∷ us)) (append_assoc xs ys zs)
 named_joined Square name xs ys zs = append_assoc xs ys zs
 
-close_stops : (k : Bracket) (at : Layout) (rest : List ℕ) → leaf_length Plain ((line at ++ closing k ∷ []) ++ rest) ≡ 0
+close_stops : (k : Bracket) (at : Layout) (rest : List ℕ) → plain_length ((line at ++ closing k ∷ []) ++ rest) ≡ 0
 close_stops Round None rest = refl
 close_stops Square None rest = refl
 close_stops Round (Some n) rest = refl
 close_stops Square (Some n) rest = refl
 
-comma_stops : (at : Layout) (xs rest : List ℕ) → leaf_length Plain ((separator at false ++ xs) ++ rest) ≡ 0
+comma_stops : (at : Layout) (xs rest : List ℕ) → plain_length ((separator at false ++ xs) ++ rest) ≡ 0
 comma_stops None xs rest = refl
 comma_stops (Some n) xs rest = refl
 
-more_stops : (at : Layout) (k : Bracket) (ps : Parts) (text rest : List ℕ) → AreMore at k ps text → leaf_length Plain (text ++ rest) ≡ 0
-more_stops at k NoPart text rest is = subst (λ (xs : List ℕ). leaf_length Plain (xs ++ rest) ≡ 0) (sym is) (close_stops k at rest)
+more_stops : (at : Layout) (k : Bracket) (ps : Parts) (text rest : List ℕ) → AreMore at k ps text → plain_length (text ++ rest) ≡ 0
+more_stops at k NoPart text rest is = subst (λ (xs : List ℕ). plain_length (xs ++ rest) ≡ 0) (sym is) (close_stops k at rest)
 more_stops at k (Part place name w ps) text rest is =
-    subst (λ (xs : List ℕ). leaf_length Plain (xs ++ rest) ≡ 0) (sym is.4) (comma_stops (deeper at) (name_on k name (is.0 ++ is.1)) rest)
+    subst (λ (xs : List ℕ). plain_length (xs ++ rest) ≡ 0) (sym is.4) (comma_stops (deeper at) (name_on k name (is.0 ++ is.1)) rest)
 
 -- ---- a part ----
 
 abbrev Reads : (levels whole : ℕ) → Written → List ℕ → Type 0
-Reads levels whole w text = (rest : List ℕ) → leaf_length Plain rest ≡ 0 → (v : Written) × AreAlike w v × (written_within levels whole (text ++ rest) ≡ Ok (v, rest))
+Reads levels whole w text = (rest : List ℕ) → plain_length rest ≡ 0 → (v : Written) × AreAlike w v × (written_within levels whole (text ++ rest) ≡ Ok (v, rest))
 
 part_reads : (levels whole : ℕ) (k : Bracket) (name value behind next : List ℕ) (v : Written) (goes_on : Bool) → IsNamed k name → Begins (value ++ behind) → written_within levels whole (value ++ behind) ≡ Ok (v, behind)
     → behind_part k whole (after_blanks behind) ≡ Ok (goes_on, next)

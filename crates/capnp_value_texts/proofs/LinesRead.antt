@@ -1,5 +1,5 @@
 -- Texts on one line are read as what was written.
-use Rattle.std.proofs.Common.{◌≡◌, ℕ, zero, suc, ◌-◌, ◌<◌, ◌≤◌, ◌==◌, List, [], ◌∷◌, ◌++◌, drop, get_or, length, take, Bool, true, false, Ok, refl, ap, ◌∙◌, length-append, arith}
+use Rattle.std.proofs.Common.{◌≡◌, ◌+◌, ℕ, zero, suc, ◌-◌, ◌<◌, ◌≤◌, ◌==◌, List, [], ◌∷◌, ◌++◌, drop, get_or, length, take, Bool, true, false, Ok, refl, ap, ◌∙◌, length-append, arith}
 use Rattle.std.proofs.lemmas.Bool.Decides.{nat_tests}
 use Rattle.capnp_json_text.specs.Readings.{after_blanks, is_blank}
 use Rattle.capnp_value_texts.specs.Errors.{read_as, read_then}
@@ -68,7 +68,8 @@ leaf_front place n xs ys h e =
 pub leaf_reads : (levels whole : ℕ) (bs rest : List ℕ) → IsLeafText bs → leaf_length Plain rest ≡ 0 → written_within levels whole (bs ++ rest) ≡ Ok (Leaf (whole - length (bs ++ rest)) bs, rest)
 leaf_reads levels whole [] rest h stops = absurd (omega (arith, h.some))
 leaf_reads levels whole (b ∷ bs) rest h stops =
-    let n : leaf_length Plain (b ∷ (bs ++ rest)) ≡ length (b ∷ bs) = omega (arith, h.goes_on rest, stops) in
+    let goes : leaf_length Plain (b ∷ (bs ++ rest)) ≡ length (b ∷ bs) + leaf_length Plain rest = h.goes_on rest in
+    let n : leaf_length Plain (b ∷ (bs ++ rest)) ≡ length (b ∷ bs) = omega (arith, goes, stops) in
     at_leaf levels whole (b ∷ (bs ++ rest)) (omega arith) h.opens ∙ rw h.opaque (leaf_front (whole - length (b ∷ (bs ++ rest))) (leaf_length Plain (b ∷ (bs ++ rest))) (b ∷ bs) rest (omega arith) n)
 
 name_front : (whole n : ℕ) (xs rest : List ℕ) → 0 < length xs → n ≡ length xs → Begins rest → name_of whole n (xs ++ (32 ∷ 61 ∷ 32 ∷ rest)) ≡ Ok ((whole - length (xs ++ (32 ∷ 61 ∷ 32 ∷ rest)), xs), rest)
