@@ -1,7 +1,7 @@
 -- What is printed of a value that holds no others, and that it is a leaf.
-use Rattle.std.proofs.Common.{decimal, codes, flat_map, slice_get, ◌≡◌, ℕ, zero, suc, ◌^◌, ◌<◌, List, [], ◌∷◌, ◌++◌, inl, Bool, cond, pos, negsuc, Option, None, refl, ap, sym, ◌∙◌, append-nil, arith}
+use Rattle.std.proofs.Common.{decimal, codes, slice_get, ◌≡◌, ℕ, suc, List, [], ◌∷◌, inl, cond, pos, negsuc, Option, refl, arith}
 use Rattle.std.specs.Prelude.{⊤}
-use Rattle.std.specs.Fmt.{debug_escape, signed_decimal}
+use Rattle.std.specs.Fmt.{signed_decimal}
 use Rattle.capnp_schema.specs.Schema.{Schemas, enum_at}
 use Rattle.capnp_schema.specs.Types.{BoolType, DataType, EnumType, IntType, SchemaType, TextType, UIntType, VoidType}
 use Rattle.capnp_records.specs.Record as value

@@ -1,6 +1,5 @@
 -- What is printed of a whole value has a line.
-use Rattle.std.proofs.Common.{◌≡◌, ℕ, zero, suc, ◌+◌, ◌<◌, not, ◌&&◌, ◌||◌, ◌==◌, nat_lt, List, [], ◌∷◌, ◌++◌, Bool, true, false, get_or, length, Option, Some, None, refl, sym, cond, arith}
-use Rattle.std.specs.Prelude.{⊤}
+use Rattle.std.proofs.Common.{◌≡◌, ℕ, zero, suc, not, ◌&&◌, ◌||◌, ◌==◌, nat_lt, List, [], ◌∷◌, ◌++◌, Bool, true, false, length, Some, None, refl, cond, arith}
 use Rattle.std.specs.List.{list_all}
 use Rattle.capnp_schema.specs.Schema.{FieldKind, Group, Schemas, Slot, field_at, is_member}
 use Rattle.capnp_schema.specs.Types.{ListType, SchemaType, StructType}
@@ -9,7 +8,6 @@ use Rattle.capnp_records.specs.Record.{Active, MoreValues, NoUnion, NoValues, Re
 use Rattle.capnp_value_texts.specs.Lengths.{ends_name, is_end, name_length}
 use Rattle.capnp_value_texts.specs.Lines.{HasLine, HaveLines, IsNameText}
 use Rattle.capnp_value_texts.specs.Written.{NoPart, Part, Parts, Written}
-use Rattle.capnp_value_texts.specs.declared.parts.Bracket.{Bracket}
 use Rattle.capnp_value_texts.specs.declared.parts.Bracket.TheVariants.{Round, Square}
 use Rattle.capnp_value_laws.specs.Trees.{MemberPart, both_parts, member_behind, member_left, own_parts, part_if, part_later, parts_before, printed_elements, printed_fields, printed_member, printed_record, printed_value}
 use Rattle.capnp_diffs.specs.Changes.{ByKind, Either}

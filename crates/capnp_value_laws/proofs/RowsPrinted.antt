@@ -1,10 +1,10 @@
 -- Worked rows: the texts of what is printed of values, and which values are whole.
-use Rattle.std.proofs.Common.{◌≡◌, ◌<◌, ℕ, true, false, List, [], ◌∷◌, inl, None, Some, pos, negsuc, refl, codes, map, arith}
+use Rattle.std.proofs.Common.{◌≡◌, ℕ, true, false, List, [], ◌∷◌, inl, None, Some, pos, negsuc, refl, codes, map, arith}
 use Rattle.std.specs.Fmt.{debug_escape, digits}
 use Rattle.std.specs.Str.{chars, is_utf8}
 use lib.Utf8.{encode}
-use Rattle.capnp_schema.specs.Schema.{Brand, BoolValue, Enum, Enumerant, EnumValue, Field, FieldKind, Group, IntValue, ListValue, Node, Schemas, Slot, StructValue, TextValue, UIntValue, VoidValue, field_at, no_types}
-use Rattle.capnp_schema.specs.Types.{AnyPointerType, BoolType, EnumType, IntType, ListType, SchemaType, StructType, TextType, UIntType, VoidType}
+use Rattle.capnp_schema.specs.Schema.{Brand, BoolValue, Enumerant, EnumValue, Field, FieldKind, Group, IntValue, ListValue, Node, Schemas, Slot, StructValue, TextValue, UIntValue, VoidValue, field_at, no_types}
+use Rattle.capnp_schema.specs.Types.{BoolType, EnumType, IntType, ListType, SchemaType, StructType, TextType, UIntType, VoidType}
 use Rattle.capnp_records.specs.Record as value
 use Rattle.capnp_records.specs.Record.{Active, Endless, Left, MoreValues, NoUnion, NoValues, Parts, Record, Union, Value, Values}
 use Rattle.capnp_records.specs.Text.{said_text, text_of}

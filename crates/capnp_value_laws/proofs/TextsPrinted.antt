@@ -1,21 +1,21 @@
 -- The text of a whole value is the line of its tree.
-use Rattle.std.proofs.Common.{codes, slice_get, unwrap_or, ◌≡◌, ℕ, zero, suc, ◌<◌, ◌≤◌, not, ◌||◌, ◌==◌, nat_lt, List, [], ◌∷◌, inl, inr, ◌++◌, Bool, true, false, cond, drop, length, Option, Some, None, Ok, Err, refl, ap, ap₂, sym, ◌∙◌, append_assoc, append-nil, subst, arith}
+use Rattle.std.proofs.Common.{codes, slice_get, unwrap_or, ◌≡◌, ℕ, zero, suc, ◌≤◌, not, ◌||◌, ◌==◌, nat_lt, List, [], ◌∷◌, inl, inr, ◌++◌, Bool, true, false, cond, drop, length, Option, Some, None, Ok, Err, refl, ap, ap₂, sym, ◌∙◌, append_assoc, subst, arith}
 use Rattle.std.specs.Prelude.{⊤}
 use Rattle.capnp_schema.specs.Schema.{FieldKind, Group, Schemas, Slot, TypedField, VoidValue, default_of, field_at, fields_of, is_member, no_field, Value as SchemaValue}
-use Rattle.capnp_schema.specs.Types.{ListType, SchemaType, StructType, VoidType, struct_number}
+use Rattle.capnp_schema.specs.Types.{ListType, SchemaType, StructType, VoidType}
 use Rattle.capnp_records.specs.Default.{read_of}
 use Rattle.capnp_records.specs.Facts.Spelled.{said_both}
 use Rattle.capnp_records.specs.Record as value
 use Rattle.capnp_records.specs.Record.{Active, Levels, MoreValues, NoUnion, NoValues, Record, Union, Unknown, Value, Values, is_there}
-use Rattle.capnp_records.specs.Text.{Inner, Layout, Member, Out, after, before, bracketed_text, deeper, element_texts, item, item_if, later, line, list_text, member, member_rest, more_text, part_text, record_text, said_text, separator, shown, struct_text, text_within, value_text, within}
+use Rattle.capnp_records.specs.Text.{Inner, Layout, Member, Out, after, before, deeper, element_texts, item, item_if, later, line, list_text, member, member_rest, more_text, part_text, record_text, said_text, separator, shown, struct_text, text_within, value_text, within}
 use Rattle.capnp_value_texts.specs.Lines.{name_on}
-use Rattle.capnp_value_texts.specs.Written.{Fields, Items, Leaf, NoPart, Part, Parts, Written, closing}
+use Rattle.capnp_value_texts.specs.Written.{Fields, Items, NoPart, Part, Parts, Written, closing}
 use Rattle.capnp_value_texts.specs.declared.parts.Bracket.{Bracket}
 use Rattle.capnp_value_texts.specs.declared.parts.Bracket.TheVariants.{Round, Square}
 use Rattle.capnp_value_laws.specs.Texts.{AreFirst, AreMore, IsTextOf}
 use Rattle.capnp_value_laws.specs.Trees.{MemberPart, both_parts, member_behind, member_left, own_parts, part_if, part_later, parts_before, printed_elements, printed_fields, printed_member, printed_record, printed_value}
 use Rattle.capnp_diffs.specs.Changes.{ByKind, Either}
-use Rattle.capnp_value_laws.specs.Whole.{AreWhole, AreWholeFields, IsElsewhere, IsPlainField, IsNull, IsWhole, IsWholeGroup, IsWholeLeaf, IsWholeRecord, IsWholeUnion}
+use Rattle.capnp_value_laws.specs.Whole.{AreWhole, AreWholeFields, IsElsewhere, IsPlainField, IsNull, IsWhole, IsWholeGroup, IsWholeRecord, IsWholeUnion}
 use Rattle.capnp_value_laws.proofs.Leaves.{Spelt, leaf_said}
 
 -- ---- items ----

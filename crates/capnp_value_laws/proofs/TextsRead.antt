@@ -4,9 +4,9 @@ use Rattle.std.specs.Prelude.{⊤}
 use Rattle.capnp_json_text.specs.Readings.{after_blanks}
 use Rattle.capnp_records.specs.Text.{Layout, deeper, line, separator}
 use Rattle.capnp_value_texts.specs.Errors.{read_as, read_then}
-use Rattle.capnp_value_texts.specs.Lengths.{is_end, plain_length}
+use Rattle.capnp_value_texts.specs.Lengths.{plain_length}
 use Rattle.capnp_value_texts.specs.Lines.{HasLine, HaveLines, IsNamed, name_kept, name_on}
-use Rattle.capnp_value_texts.specs.Written.{Fields, Items, Leaf, Name, NoPart, Part, Parts, Written, at_end, behind_part, bracketed_read, closing, held_at, part_at, part_behind, parts_within, with_part, written, written_within}
+use Rattle.capnp_value_texts.specs.Written.{Fields, Items, Leaf, Name, NoPart, Part, Parts, Written, at_end, behind_part, bracketed_read, closing, held_at, part_at, part_behind, parts_within, with_part, written_within}
 use Rattle.capnp_value_texts.specs.declared.parts.Bracket.{Bracket}
 use Rattle.capnp_value_texts.specs.declared.parts.Bracket.TheVariants.{Round, Square}
 use Rattle.capnp_value_texts.proofs.Grammar.{parts_end, parts_more, written_is}

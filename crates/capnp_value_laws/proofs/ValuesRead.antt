@@ -1,10 +1,9 @@
 -- What is printed of a whole value is read as its tree.
-use Rattle.std.specs.Prelude.{⊤}
-use Rattle.std.proofs.Common.{ℕ, ◌≡◌, List, Bool, cond, None, Ok, Some, arith, ◌∙◌}
+use Rattle.std.proofs.Common.{ℕ, ◌≡◌, List, Bool, Ok, arith}
 use Rattle.capnp_schema.specs.Schema.{Schemas, VoidValue}
 use Rattle.capnp_schema.specs.Types.{SchemaType}
 use Rattle.capnp_records.specs.Record.{Value}
-use Rattle.capnp_records.specs.Text.{Layout, part_text, said_text, text_of, text_within}
+use Rattle.capnp_records.specs.Text.{said_text, text_of, text_within}
 use Rattle.capnp_value_texts.specs.Lines.{HasLine}
 use Rattle.capnp_value_texts.specs.Written.{Written, most_levels, written}
 use Rattle.capnp_value_laws.specs.Laws.{WholeValuesArePrinted, layout_of}

@@ -1,7 +1,7 @@
 -- Values that stand whole in what is printed of them.
-use Rattle.std.specs.Prelude.{ℕ, zero, suc, ◌<◌, ◌≤◌, ◌≡◌, ⊤, List, Bool, true, false, not, ◌||◌, ◌==◌, length}
+use Rattle.std.specs.Prelude.{ℕ, zero, suc, ◌<◌, ◌≤◌, ◌≡◌, ⊤, List, true, false, not, ◌||◌, ◌==◌, length}
 use Rattle.std.specs.List.{list_all}
-use Rattle.capnp_schema.specs.Schema.{FieldKind, Group, Schemas, Slot, TypedField, field_at, fields_of, is_member, node_of}
+use Rattle.capnp_schema.specs.Schema.{FieldKind, Schemas, Slot, TypedField, field_at, fields_of, is_member, node_of}
 use Rattle.capnp_schema.specs.Types.{ListType, SchemaType, StructType, is_pointer}
 use Rattle.capnp_records.specs.Part.{value_count}
 use Rattle.capnp_records.specs.Record as value
