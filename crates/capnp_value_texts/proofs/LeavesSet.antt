@@ -25,7 +25,7 @@ use Rattle.capnp_value_texts.proofs.LeavesStand.{StandsAlone, data_stands, leaf_
 
 -- ---- a leaf is set ----
 
-unmarked : (set : Schemas) (t : SchemaType) (bs : List ℕ) → marked_value_by_word set false t bs ≡ value_by_word set t bs
+pub unmarked : (set : Schemas) (t : SchemaType) (bs : List ℕ) → marked_value_by_word set false t bs ≡ value_by_word set t bs
 unmarked set VoidType bs = refl
 unmarked set BoolType bs = refl
 unmarked set (IntType bytes) bs = refl
@@ -66,13 +66,13 @@ void_set set f i text is e =
 
 -- ---- texts of values ----
 
-signed_fits : (bytes n : ℕ) → bytes ≤ 8 → n ≤ greatest_signed bytes → suc n < 2 ^ 64
+pub signed_fits : (bytes n : ℕ) → bytes ≤ 8 → n ≤ greatest_signed bytes → suc n < 2 ^ 64
 signed_fits bytes n h k =
     let l : 8 * bytes - 1 ≤ 63 = omega arith in
     let p : 2 ^ (8 * bytes - 1) ≤ 2 ^ 63 = pow-le-pow_right {n = 2} (omega arith) l in
     omega (arith, p, k)
 
-unsigned_fits : (bytes n : ℕ) → bytes ≤ 8 → n ≤ greatest_unsigned bytes → n < 2 ^ 64
+pub unsigned_fits : (bytes n : ℕ) → bytes ≤ 8 → n ≤ greatest_unsigned bytes → n < 2 ^ 64
 unsigned_fits bytes n h k =
     let l : 8 * bytes ≤ 64 = omega arith in
     let p : 2 ^ (8 * bytes) ≤ 2 ^ 64 = pow-le-pow_right {n = 2} (omega arith) l in
@@ -87,14 +87,14 @@ ascii_at [] h i = omega arith
 ascii_at (b ∷ bs) h zero = grind (arith, nat_tests, h.0)
 ascii_at (b ∷ bs) h (suc i) = ascii_at bs h.1 i
 
-quoted_ascii : (bs : List ℕ) → AllByRecursion (λ b. is_ascii b ≡ true) bs → quoted_text bs ≡ said_text (34 ∷ (flat_map (debug_escape 34) bs ++ 34 ∷ []))
+pub quoted_ascii : (bs : List ℕ) → AllByRecursion (λ b. is_ascii b ≡ true) bs → quoted_text bs ≡ said_text (34 ∷ (flat_map (debug_escape 34) bs ++ 34 ∷ []))
 quoted_ascii bs h = rw (is_utf8-from_IsUtf8 bs (IsUtf8-from_ascii bs (ascii_at bs h)), quoted_text) (rw (all_ascii bs h) refl)
 
-truth_stands : (b : Bool) → StandsAlone (cond b (codes "true") (codes "false"))
+pub truth_stands : (b : Bool) → StandsAlone (cond b (codes "true") (codes "false"))
 truth_stands true = plain_stands (codes "true") (omega arith) refl
 truth_stands false = plain_stands (codes "false") (omega arith) refl
 
-name_stands : (xs : List Enumerant) (n : ℕ) → AllByRecursion IsLeafName (map (λ (x : Enumerant). x.name) xs) → n < 2 ^ 64 → StandsAlone (name_or n (slice_get xs n))
+pub name_stands : (xs : List Enumerant) (n : ℕ) → AllByRecursion IsLeafName (map (λ (x : Enumerant). x.name) xs) → n < 2 ^ 64 → StandsAlone (name_or n (slice_get xs n))
 name_stands xs n h small = go xs n h
   where
     go : (ys : List Enumerant) (k : ℕ) → AllByRecursion IsLeafName (map (λ (x : Enumerant). x.name) ys) → StandsAlone (name_or n (slice_get ys k))

@@ -10,6 +10,7 @@ use Rattle.capnp_json_text.specs.Readings.{after_blanks, is_blank}
 use Rattle.capnp_value_texts.specs.Errors.{read_then}
 use Rattle.capnp_value_texts.specs.Laws.{is_leaf_byte}
 use Rattle.capnp_value_texts.specs.Lengths.{ends_leaf, is_end, leaf_length, next_within}
+use Rattle.capnp_value_texts.specs.Lines.{IsLeafText}
 use Rattle.capnp_value_texts.specs.Written.{Leaf, at_end, bracket_of, leaf_at, leaf_of, written, written_within}
 use Rattle.capnp_value_texts.specs.declared.lengths.Within.{Within}
 use Rattle.capnp_value_texts.specs.declared.lengths.Within.TheVariants.{Plain, Quoted, Escaped}
@@ -148,6 +149,20 @@ pub leaf_alone : (bs : List ℕ) → StandsAlone bs → written bs ≡ Ok (Leaf 
 leaf_alone bs s =
     ap (λ xs. read_then (written_within 64 (length bs) xs) (λ v. at_end (length bs) v.0 (after_blanks v.1))) (blanks_none bs s.first)
     ∙ ap (λ r. read_then r (λ v. at_end (length bs) v.0 (after_blanks v.1))) (at_leaf 64 (length bs) bs (omega (arith, s.some)) s.opens ∙ leaf_is bs s)
+
+-- ---- a leaf before what follows ----
+
+no_end : (b : ℕ) (bs : List ℕ) (e : Bool) → e ≡ is_end b → leaf_length Plain (b ∷ bs) ≡ length (b ∷ bs) → is_end b ≡ false
+no_end b bs false e n = sym e
+no_end b bs true e n = let none : leaf_length Plain (b ∷ bs) ≡ 0 = rw (sym e) refl in absurd (omega (arith, none, n))
+
+first_stands : (bs : List ℕ) → 0 < length bs → leaf_length Plain bs ≡ length bs → is_end (get_or bs 0 0) ≡ false
+first_stands [] h n = absurd (omega arith)
+first_stands (b ∷ bs) h n = no_end b bs (is_end b) refl n
+
+pub leaf_text : (bs : List ℕ) → StandsAlone bs → IsLeafText bs
+unfolding Walks
+leaf_text bs s = record { some = s.some; begins = first_stands bs s.some (whole_length bs s.walks); opens = s.opens; opaque = s.opaque; goes_on = s.walks }
 
 -- ---- numbers ----
 

@@ -1,5 +1,5 @@
 -- Texts on one line are read as what was written.
-use Rattle.std.proofs.Common.{◌≡◌, ℕ, zero, suc, ◌-◌, ◌<◌, ◌≤◌, ◌==◌, List, [], ◌∷◌, ◌++◌, drop, get_or, length, take, Bool, true, false, Ok, refl, ap, ◌∙◌, length-append, arith}
+use Rattle.std.proofs.Common.{◌≡◌, ◌+◌, ℕ, zero, suc, ◌-◌, ◌<◌, ◌≤◌, ◌==◌, List, [], ◌∷◌, ◌++◌, drop, get_or, length, take, Bool, true, false, Ok, refl, ap, ◌∙◌, length-append, arith}
 use Rattle.std.proofs.lemmas.Bool.Decides.{nat_tests}
 use Rattle.capnp_json_text.specs.Readings.{after_blanks, is_blank}
 use Rattle.capnp_value_texts.specs.Errors.{read_as, read_then}
@@ -13,22 +13,22 @@ use Rattle.capnp_value_texts.proofs.Grammar.{at_leaf, parts_end, parts_more, wri
 
 -- ---- what begins with no end ----
 
-record Begins (bs : List ℕ) : Type 0 where
-  some : 0 < length bs
-  first : is_end (get_or bs 0 0) ≡ false
+pub record Begins (bs : List ℕ) : Type 0 where
+  pub some : 0 < length bs
+  pub first : is_end (get_or bs 0 0) ≡ false
 
-begins_on : (xs ys : List ℕ) → 0 < length xs → is_end (get_or xs 0 0) ≡ false → Begins (xs ++ ys)
+pub begins_on : (xs ys : List ℕ) → 0 < length xs → is_end (get_or xs 0 0) ≡ false → Begins (xs ++ ys)
 begins_on [] ys h e = absurd (omega arith)
 begins_on (x ∷ xs) ys h e = record { some = omega arith; first = e }
 
 unblank : (b : ℕ) → is_end b ≡ false → is_blank b ≡ false
 unblank b e = grind (arith, nat_tests)
 
-no_blanks : (bs : List ℕ) → Begins bs → after_blanks bs ≡ bs
+pub no_blanks : (bs : List ℕ) → Begins bs → after_blanks bs ≡ bs
 no_blanks [] h = refl
 no_blanks (b ∷ bs) h = rw (unblank b h.first) refl
 
-unclosed : (k : Bracket) (b : ℕ) → is_end b ≡ false → (b == closing k) ≡ false
+pub unclosed : (k : Bracket) (b : ℕ) → is_end b ≡ false → (b == closing k) ≡ false
 unclosed Round b e = grind (arith, nat_tests)
 unclosed Square b e = grind (arith, nat_tests)
 
@@ -65,10 +65,11 @@ leaf_front : (place n : ℕ) (xs ys : List ℕ) → 0 < length xs → n ≡ leng
 leaf_front place n xs ys h e =
     ap (λ m. leaf_of place m (xs ++ ys)) e ∙ rw (some_count (length xs) h, take_front xs ys, drop_front xs ys) refl
 
-leaf_reads : (levels whole : ℕ) (bs rest : List ℕ) → IsLeafText bs → leaf_length Plain rest ≡ 0 → written_within levels whole (bs ++ rest) ≡ Ok (Leaf (whole - length (bs ++ rest)) bs, rest)
+pub leaf_reads : (levels whole : ℕ) (bs rest : List ℕ) → IsLeafText bs → leaf_length Plain rest ≡ 0 → written_within levels whole (bs ++ rest) ≡ Ok (Leaf (whole - length (bs ++ rest)) bs, rest)
 leaf_reads levels whole [] rest h stops = absurd (omega (arith, h.some))
 leaf_reads levels whole (b ∷ bs) rest h stops =
-    let n : leaf_length Plain (b ∷ (bs ++ rest)) ≡ length (b ∷ bs) = omega (arith, h.goes_on rest, stops) in
+    let goes : leaf_length Plain (b ∷ (bs ++ rest)) ≡ length (b ∷ bs) + leaf_length Plain rest = h.goes_on rest in
+    let n : leaf_length Plain (b ∷ (bs ++ rest)) ≡ length (b ∷ bs) = omega (arith, goes, stops) in
     at_leaf levels whole (b ∷ (bs ++ rest)) (omega arith) h.opens ∙ rw h.opaque (leaf_front (whole - length (b ∷ (bs ++ rest))) (leaf_length Plain (b ∷ (bs ++ rest))) (b ∷ bs) rest (omega arith) n)
 
 name_front : (whole n : ℕ) (xs rest : List ℕ) → 0 < length xs → n ≡ length xs → Begins rest → name_of whole n (xs ++ (32 ∷ 61 ∷ 32 ∷ rest)) ≡ Ok ((whole - length (xs ++ (32 ∷ 61 ∷ 32 ∷ rest)), xs), rest)
@@ -77,7 +78,7 @@ name_front whole n xs rest h e begins =
     ap (λ m. name_of whole m all) e
     ∙ rw (some_count (length xs) h, take_front xs (32 ∷ 61 ∷ 32 ∷ rest), drop_front xs (32 ∷ 61 ∷ 32 ∷ rest), no_blanks rest begins) refl
 
-name_reads : (k : Bracket) (whole : ℕ) (name rest : List ℕ) → IsNamed k name → Begins rest → name_at k whole (name_on k name rest) ≡ Ok ((whole - length (name_on k name rest), name_kept k name), rest)
+pub name_reads : (k : Bracket) (whole : ℕ) (name rest : List ℕ) → IsNamed k name → Begins rest → name_at k whole (name_on k name rest) ≡ Ok ((whole - length (name_on k name rest), name_kept k name), rest)
 name_reads Round whole name rest n begins = name_front whole (name_length (name ++ (32 ∷ 61 ∷ 32 ∷ rest))) name rest n.some (n.goes_on (61 ∷ 32 ∷ rest)) begins
 name_reads Square whole name rest n begins = refl
 
@@ -136,11 +137,11 @@ parts_read levels whole n k place name v (Part at other w qs) rest h reads less 
     ∙ ap (read_as (with_part (named, placed whole v (more_on k ps rest)))) (parts_read levels whole (n - 1) k at other w qs rest h.2 reads.1 (omega (arith, less)))
 
 -- parts take a byte each
-named_longer : (k : Bracket) (name xs : List ℕ) → length xs ≤ length (name_on k name xs)
+pub named_longer : (k : Bracket) (name xs : List ℕ) → length xs ≤ length (name_on k name xs)
 named_longer Round name xs = omega (arith, length-append name (32 ∷ 61 ∷ 32 ∷ xs))
 named_longer Square name xs = omega arith
 
-front_longer : (xs ys : List ℕ) → length ys ≤ length (xs ++ ys)
+pub front_longer : (xs ys : List ℕ) → length ys ≤ length (xs ++ ys)
 front_longer xs ys = omega (arith, length-append xs ys)
 
 mutual

@@ -27,6 +27,10 @@ abbrev pub leaf_length : Within → List ℕ → ℕ
 leaf_length within [] = 0
 leaf_length within (b ∷ bs) = cond (ends_leaf within b) 0 (suc (leaf_length (next_within within b) bs))
 
+-- from outside of quotes
+abbrev pub plain_length : List ℕ → ℕ
+plain_length bs = leaf_length Plain bs
+
 -- a name goes to its equals sign
 abbrev pub ends_name : ℕ → Bool
 ends_name b = is_end b || b == 61

@@ -1,8 +1,7 @@
 -- Texts on one line of what is written, and what is read of them.
 use Rattle.std.specs.Prelude.{ℕ, zero, suc, ◌+◌, ◌-◌, ◌<◌, ◌≡◌, ⊤, List, [], ◌∷◌, ◌++◌, false, get_or, length, ◌==◌, None, Ok}
-use Rattle.capnp_value_texts.specs.Lengths.{is_end, leaf_length, name_length}
+use Rattle.capnp_value_texts.specs.Lengths.{is_end, name_length, plain_length}
 use Rattle.capnp_value_texts.specs.Written.{Fields, Items, Leaf, NoPart, Part, Parts, Written, bracket_of, closing, most_levels, written}
-use Rattle.capnp_value_texts.specs.declared.lengths.Within.TheVariants.{Plain}
 use Rattle.capnp_value_texts.specs.declared.parts.Bracket.{Bracket}
 use Rattle.capnp_value_texts.specs.declared.parts.Bracket.TheVariants.{Round, Square}
 
@@ -55,7 +54,7 @@ pub record IsLeafText (bs : List ℕ) : Type 0 where
   pub begins : is_end (get_or bs 0 0) ≡ false
   pub opens : bracket_of (get_or bs 0 0) ≡ None
   pub opaque : (get_or bs 0 0 == 60) ≡ false
-  pub goes_on : (rest : List ℕ) → leaf_length Plain (bs ++ rest) ≡ length bs + leaf_length Plain rest
+  pub goes_on : (rest : List ℕ) → plain_length (bs ++ rest) ≡ length bs + plain_length rest
 
 -- a name, whatever blank follows
 pub record IsNameText (name : List ℕ) : Type 0 where

@@ -11,7 +11,7 @@ use capnp_json_text::rest::skip_blanks;
 
 /// A bracket that is open.
 #[derive(Clone, Copy, Debug, PartialEq, Eq)]
-pub(crate) enum Bracket {
+pub enum Bracket {
     /// That of a struct.
     Round,
     /// That of a list.

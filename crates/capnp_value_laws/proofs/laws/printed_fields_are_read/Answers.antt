@@ -1,0 +1,5 @@
+use Rattle.capnp_value_laws.proofs.MessagesBack.{fields_read}
+use Rattle.capnp_value_laws.proofs.laws.printed_fields_are_read.Goals as goal
+
+pub returns : goal.returns
+returns c = fields_read c.printed_values_are_read.ensures
