@@ -1,15 +1,18 @@
 -- Worked rows: the calls of what is printed of records, and a run of them.
-use Rattle.std.proofs.Common.{◌≡◌, true, false, List, [], ◌∷◌, Ok, pos, negsuc, refl, codes}
+use Rattle.std.proofs.Common.{arith, inl, inr, ◌≡◌, true, false, List, [], ◌∷◌, Ok, pos, negsuc, refl, codes}
 use Rattle.std.specs.Char.{encode_utf8}
 use Rattle.std.specs.Fmt.{debug_escape, digits}
+use Rattle.capnp_device.specs.declared.error.ErrorKind.TheVariants.{OutOfMemory, TypeMismatch}
+use Rattle.capnp_schema.specs.Schema.{field_at}
 use Rattle.capnp_schema.specs.Types.{StructType}
-use Rattle.capnp_records.specs.Call.{BoolSource, Call, Done, ElementAt, EnumSource, FieldNumber, Init, Initn, IntSource, Op, PathStep, Set, TextSource, UIntSource, VoidSource}
+use Rattle.capnp_records.specs.Call.{BoolSource, Call, Done, ElementAt, EnumSource, FieldNumber, Init, Initn, IntSource, Op, PathStep, Refused, Set, TextSource, UIntSource, VoidSource}
 use Rattle.capnp_records.specs.Default.{default_record}
 use Rattle.capnp_records.specs.Record as value
-use Rattle.capnp_records.specs.Record.{Active, Endless, Record}
+use Rattle.capnp_records.specs.Record.{Active, Endless, NoUnion, NoValues, Parts, Record}
 use Rattle.capnp_records.specs.Run.{Run}
 use Rattle.capnp_value_texts.specs.Calls.{root_calls}
 use Rattle.capnp_value_texts.specs.Errors.{Read}
+use Rattle.capnp_value_laws.specs.Laws.{AreDoneToRoom, HasPlace}
 use Rattle.capnp_value_laws.specs.Trees.{printed_value}
 use Rattle.capnp_value_laws.proofs.RowsPrinted.{missing, of_parts, plain, set, with_group, with_lists}
 
@@ -55,3 +58,26 @@ plain_run = (
     (plain, (refl, refl), refl),
   ),
 )
+
+-- ---- what the laws say ----
+
+done_to_room : AreDoneToRoom (Done ∷ Refused OutOfMemory ∷ Refused TypeMismatch ∷ [])
+done_to_room = inl (refl, inr (inl refl))
+
+-- no other refusal comes first
+refused_before : AreDoneToRoom (Done ∷ Refused TypeMismatch ∷ Refused OutOfMemory ∷ []) → ⊥
+refused_before (inl (done, inl (e, rest))) = let no : ⊥ = cc in absurd no
+refused_before (inl (done, inr (inl e))) = let no : ⊥ = cc in absurd no
+refused_before (inl (done, inr (inr e))) = let no : ⊥ = cc in absurd no
+refused_before (inr (inl e)) = let no : ⊥ = cc in absurd no
+refused_before (inr (inr e)) = let no : ⊥ = cc in absurd no
+
+last_place : HasPlace plain (field_at set 0 7).field 7
+last_place = omega arith
+
+-- a member's place is the union, whatever stands there
+member_place : HasPlace (Parts NoValues NoUnion) (field_at set 0 2).field 2
+member_place = tt
+
+no_place : HasPlace (Parts NoValues NoUnion) (field_at set 0 0).field 0 → ⊥
+no_place h = omega (arith, h)
