@@ -1,5 +1,5 @@
 -- What a reader prints is the text of the record without levels.
-use Rattle.std.proofs.Common.{List, ℕ, [], Bool, false, ◌≡◌, Ok, Err, ap, refl, subst, sym, ◌∙◌}
+use Rattle.std.proofs.Common.{List, ℕ, [], Bool, ◌≡◌, Ok, Err, ap, subst, sym, ◌∙◌}
 use Rattle.capnp_wire.specs.Edits.{struct_in}
 use Rattle.capnp_wire.specs.Tree.{Tree}
 use Rattle.capnp_wire.specs.Standing.{struct_levels, struct_of}

@@ -1,9 +1,8 @@
 -- The text that was appended to an empty string makes the record that the reader sees, and is refused for room alone.
-use Rattle.std.proofs.Common.{string_bytes, ◌≡◌, ◌⊎◌, inl, inr, subst, sym, ◌∙◌}
+use Rattle.std.proofs.Common.{string_bytes, ◌≡◌, ◌⊎◌, inl, inr, subst, ◌∙◌}
 use Rattle.capnp_arena.specs.Message.{message_tree}
 use Rattle.capnp_device.specs.declared.error.ErrorKind.{ErrorKind}
 use Rattle.capnp_device.specs.declared.error.ErrorKind.TheVariants.{OutOfMemory, SizePastFormat}
-use Rattle.capnp_value_texts.specs.declared.error.Error.TheVariants.{NotMade}
 use Rattle.capnp_value_laws.specs.Messages.{IsForRoom}
 use Rattle.capnp_value_laws.proofs.ReadersBack.{for_room, same_record}
 use Rattle.capnp_value_laws.proofs.callers.copied_by_text.Goals as goal
