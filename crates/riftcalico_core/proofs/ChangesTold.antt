@@ -1,5 +1,5 @@
 -- Why one change has no line, as why several have none.
-use Rattle.std.proofs.Common.{ℕ, ◌<◌, List, drop, get_or, length, string_bytes, ◌≡◌, ◌≢◌}
+use Rattle.std.proofs.Common.{ℕ, ◌<◌, List, drop, get_or, length, string_bytes, ◌≡◌}
 use Rattle.capnp_diffs.specs.declared.change.Change.{Change as FoundChange}
 use Rattle.capnp_schema.specs.declared.schema.structs.StructSchema.{StructSchema}
 use Rattle.riftcalico_core.specs.Diffs.{IsLine, IsLineless, IsUntoldLine}

@@ -1,5 +1,5 @@
 -- What two messages come to, by their roots and the changes between them.
-use Rattle.std.proofs.Common.{ℕ, List, Ok, ap, inl, inr, subst, sym, ◌≡◌, ◌≢◌}
+use Rattle.std.proofs.Common.{ℕ, List, Ok, ap, inl, inr, subst, sym, ◌≡◌}
 use Rattle.capnp_device.specs.declared.error.Error.{Error}
 use Rattle.capnp_device.specs.declared.error.ErrorKind.{ErrorKind}
 use Rattle.capnp_diffs.specs.Changes.{IsRecordTold, record_changes}

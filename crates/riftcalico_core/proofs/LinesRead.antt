@@ -1,11 +1,10 @@
 -- Lines of changes are read as their calls, and their leaves as their values.
-use Rattle.std.proofs.Common.{ℕ, suc, ◌+◌, ◌<◌, ◌≡◌, ◌≢◌, ◌∙◌, All, List, [], ◌∷◌, ◌++◌, Bool, true, false, not, ◌==◌, ◌&&◌, ◌||◌, Option, Some, None, Result, Ok, Err, ap, arith, length, refl, slice_get, slice_index, subst, sym}
-use Rattle.std.proofs.lemmas.Bool.Decides.{nat_tests}
+use Rattle.std.proofs.Common.{ℕ, suc, ◌+◌, ◌<◌, ◌≡◌, ◌∙◌, All, List, [], ◌∷◌, ◌++◌, Bool, true, false, not, ◌==◌, ◌&&◌, Option, Some, None, Ok, Err, ap, arith, length, refl, subst, sym}
 use Rattle.std.proofs.lemmas.Bool.{eqb-true, true≢false}
 use Rattle.std.proofs.lemmas.List.Elements.{All-cons, All-nil}
-use Rattle.std.specs.Char.{is_ascii_alphanumeric, is_ascii_digit}
+use Rattle.std.specs.Char.{is_ascii_digit}
 use Rattle.std.specs.List.{AllByRecursion}
-use Rattle.std.specs.Option.{option_and_then, option_map}
+use Rattle.std.specs.Option.{option_and_then}
 use Rattle.capnp_call.specs.Seen.{path_seen, step_seen}
 use Rattle.capnp_call.specs.declared.calls.Op.{Op}
 use Rattle.capnp_call.specs.declared.calls.Op.TheVariants as op
@@ -18,15 +17,15 @@ use Rattle.capnp_records.specs.Step.{field_found, in_record, step_target}
 use Rattle.capnp_records.specs.Run.{root_type}
 use Rattle.capnp_schema.specs.Query.{field_named, records_of}
 use Rattle.capnp_schema.specs.Schema.{Field, Schemas}
-use Rattle.capnp_schema.specs.Types.{ListType, SchemaType, StructType}
+use Rattle.capnp_schema.specs.Types.{SchemaType, StructType}
 use Rattle.capnp_words.proofs.CallsRead.{calls_read}
-use Rattle.capnp_words.specs.Calls.{CallOp, Clear, Init, Set, call_at, call_of}
+use Rattle.capnp_words.specs.Calls.{Clear, Init, Set, call_at, call_of}
 use Rattle.capnp_words.specs.Laws.{IsNonEmptyPath, IsPathName, IsPathStep}
 use Rattle.capnp_words.specs.Marked.{marked_value_by_word}
-use Rattle.capnp_words.specs.Paths.{is_dot, is_space, words_of_path}
+use Rattle.capnp_words.specs.Paths.{words_of_path}
 use Rattle.capnp_words.specs.Reads.{Read}
 use Rattle.capnp_words.specs.Targets.{field_type, type_behind}
-use Rattle.riftcalico_core.specs.ChangeLines.{IsOpLine, change_path, change_steps, is_read, is_read_under}
+use Rattle.riftcalico_core.specs.ChangeLines.{IsOpLine, change_path, change_steps, is_read}
 use Rattle.riftcalico_core.specs.DiffLaws.{ChangeLinesAreRead, IsReadAs, LeavesAreReadBack, NamesHaveTargets, NamesHaveTypes}
 use Rattle.riftcalico_core.specs.FieldNames.{are_name_bytes, by_name, is_index, is_name_byte, is_plain_name, name_at, named_field, named_first, named_path, named_step, type_next}
 

@@ -1,5 +1,5 @@
 -- What is answered where all structs of two versions are compared is the answer of the plan's job.
-use Rattle.std.proofs.Common.{◌≡◌, [], Option, inl, inr, refl, string_bytes}
+use Rattle.std.proofs.Common.{◌≡◌, [], inl, inr, refl, string_bytes}
 use Rattle.capnp_schema.specs.Schema.{Schemas}
 use Rattle.riftcalico_core.specs.Answers.{IsAnswer, IsBlamed, IsNoAnswer}
 use Rattle.riftcalico_core.specs.Comparisons.{IsCompareAnswer, IsNotTold, IsReported, compare_blamed}

@@ -6,7 +6,6 @@ use Rattle.capnp_wire.specs.Tree.{Tree}
 use Rattle.capnp_wire.specs.Words.{first_fault}
 use Rattle.capnp_schema.specs.Schema.{Schemas}
 use Rattle.capnp_schema.specs.Types.{ListType, SchemaType}
-use Rattle.capnp_records.specs.Record as value
 use Rattle.capnp_records.specs.Record.{MoreValues, NoValues, Value, Values}
 use Rattle.capnp_json_text.specs.Faults.{fault_of}
 use Rattle.capnp_json_text.specs.Laws.{StandsInSteps}

@@ -1,5 +1,5 @@
 -- Why a value has no word is why its line has none; and what is told of that.
-use Rattle.std.proofs.Common.{ℕ, ◌-◌, ◌≤◌, ◌≡◌, List, length, inr, subst, sym}
+use Rattle.std.proofs.Common.{ℕ, ◌-◌, ◌≤◌, ◌≡◌, List, length, inr, subst}
 use Rattle.capnp_call.specs.declared.calls.Op.TheVariants as op
 use Rattle.capnp_dynamic_readers.specs.declared.dynamic_value.Reader.{Reader as DynamicValue}
 use Rattle.capnp_json.specs.declared.error.JsonError.TheVariants.{OutOfMemory, TooLarge}

@@ -2,7 +2,7 @@
 use Rattle.std.specs.Prelude.{ℕ, List, [], ◌∷◌, Bool, true, false, not, ◌&&◌, ◌||◌, ◌==◌, Option, Some, None, slice_get}
 use Rattle.std.specs.Char.{is_ascii_alphanumeric, is_ascii_digit}
 use Rattle.std.specs.Option.{option_map}
-use Rattle.capnp_records.specs.Call.{ElementAt, FieldNamed, FieldNumber, PathStep}
+use Rattle.capnp_records.specs.Call.{FieldNamed, FieldNumber, PathStep}
 use Rattle.capnp_schema.specs.Query.{field_named, records_of}
 use Rattle.capnp_schema.specs.Schema.{Field, Schemas, TypedField, fields_of}
 use Rattle.capnp_schema.specs.Types.{SchemaType, StructType}

@@ -1,5 +1,5 @@
 -- One query more, or the first that is refused; and at the end all.
-use Rattle.std.proofs.Common.{List, map}
+use Rattle.std.proofs.Common.{map}
 use Rattle.riftcalico_core.specs.Expanded.{most_paths}
 use Rattle.riftcalico_core.specs.QueriesSeen.{asked_seen}
 use Rattle.riftcalico_core.proofs.ListingsAsked.{all_given, denied_at, denies_more, gives_more}

@@ -1,5 +1,5 @@
 -- What is asked at an index is asked by the act there.
-use Rattle.std.proofs.Common.{None, Some, ap, length, map, refl, sym, ◌∙◌}
+use Rattle.std.proofs.Common.{None, Some, ap, length, refl, sym, ◌∙◌}
 use Rattle.std.proofs.lemmas.Option.{slice_get_past, slice_get_read}
 use Rattle.capnp_edit_calls.specs.ActsSeen.{act_seen}
 use Rattle.capnp_schema.specs.StructHandles.{number_of, set_of}
