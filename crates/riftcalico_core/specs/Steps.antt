@@ -3,6 +3,7 @@ pub mod Json
 pub mod JsonValues
 pub mod Plans
 pub mod RepliesSeen
+pub mod ShownValues
 pub mod Told
 pub mod Whole
 pub mod Wordless
