@@ -1,12 +1,12 @@
 //! The field that the last step of a path names.
-ghost use Rattle.std.specs.Prelude.{Some, ◌≡◌, IfSome};
+ghost use Rattle.std.specs.Prelude.{None, Some, ◌≡◌, IfSome};
 ghost use Rattle.std.specs.Option.{option_map};
 ghost use Rattle.capnp_schema.specs.Entries.{lists_seen};
 ghost use Rattle.capnp_schema.specs.FieldLists.{IsFound, typed_of};
 ghost use Rattle.capnp_schema.specs.GroupsDown.{place_of_field};
 ghost use Rattle.capnp_schema.specs.Schema.{Schemas};
-ghost use Rattle.capnp_schema.specs.StructHandles.{IsStruct, generic_of, number_of, set_of};
-ghost use Rattle.capnp_schema.specs.Types.{StructType, seen_type};
+ghost use Rattle.capnp_schema.specs.StructHandles.{generic_of, number_of, set_of};
+ghost use Rattle.capnp_schema.specs.Types.{ListType, StructType, seen_type};
 ghost use Rattle.capnp_slots.specs.Fields.{field_set};
 ghost use Rattle.capnp_words.specs.Seen.{path_text_seen, step_text_seen};
 ghost use Rattle.capnp_words.specs.Targets.{type_along, type_behind};
@@ -58,7 +58,11 @@ fn reach_field<'s>(schema: StructSchema<'s>, step: &PathStep) -> Option<Reached<
 }
 
 /// What a step names at an element of a type.
-fn reach_element<'s>(element: Type, step: &PathStep) -> Option<Reached<'s>> {
+fn reach_element<'s>(element: Type, step: &PathStep) -> Option<Reached<'s>>
+    ensures is { (set : Schemas) → option_map (λ r. seen_type r.of) result
+        ≡ type_behind set (ListType (seen_type element)) (step_text_seen step.now) }
+    ensures field { IfSome result (λ r. r.field ≡ None) }
+{
     match step {
         PathStep::Element(_) => Some(Reached {
             of: element,

@@ -5,7 +5,7 @@ ghost use Rattle.capnp_wire.specs.Depth.{IsShallow};
 ghost use Rattle.capnp_wire.specs.Edits.{struct_in};
 ghost use Rattle.capnp_wire.specs.Place.{struct_tree};
 ghost use Rattle.capnp_wire.specs.Standing.{list_levels, list_of, struct_of};
-ghost use Rattle.capnp_wire.specs.Tree.{nth_tree};
+ghost use Rattle.capnp_wire.specs.Tree.{StructTree, nth_tree};
 ghost use Rattle.capnp_wire.specs.Words.{first_fault};
 ghost use Rattle.capnp_arena.specs.Message.{IsMessage, message_tree};
 ghost use Rattle.capnp_schema.specs.Accepted.{NamesEntries};
@@ -14,6 +14,8 @@ ghost use Rattle.capnp_schema.specs.FieldLists.{typed_of};
 ghost use Rattle.capnp_schema.specs.GroupsDown.{place_of_field};
 ghost use Rattle.capnp_schema.specs.StructHandles.{IsStruct, number_of, set_of};
 ghost use Rattle.capnp_schema.specs.Types.{ListType, StructType, seen_type};
+ghost use Rattle.capnp_records.specs.Call.{ListSource};
+ghost use Rattle.capnp_records.specs.Record.{Left};
 ghost use Rattle.capnp_records.specs.Writes.TreeEnds.{offset_of};
 ghost use Rattle.std.specs.Option.{option_map};
 ghost use Rattle.capnp_slots.specs.Fields.{field_set};
@@ -181,17 +183,17 @@ fn read_shown_struct<'s>(
     }
 }
 
-/// The pointer of a field that is a list.
-fn pointer_of(field: Field<'_>) -> u16
-    requires { (element : _) × ((typed_of field).type ≡ ListType element) }
-    ensures { result ≡ offset_of (typed_of field.entry).field.kind }
+/// The list of elements of a type that a field is.
+fn list_of_field<'s>(field: Field<'s>, element: Type) -> Part<'s>
+    requires typed { (typed_of field).type ≡ ListType (seen_type element) }
+    ensures { (s : StructTree) → part_source result s
+        ≡ ListSource (Left 62) (nth_tree s.pointers (offset_of (typed_of field.entry).field.kind)) (seen_type element) }
 {
-    // The prover learns the set's invariant from this call.
-    let _schema = field.get_containing_struct();
+    let schemas = field.get_containing_struct().get_set();
     let Place::Pointer(index) = field.plan().place else {
         unreachable!()
     };
-    index
+    Part::Behind(schemas, element, index)
 }
 
 /// The list of elements of a type that a text stands for, as the value of its field.
@@ -209,12 +211,10 @@ fn read_shown_list<'s>(
     ensures memory { IfErr result (λ e. e.kind ≡ OutOfMemory) }
 {
     let first = find_begin(text);
-    let schemas = field.get_containing_struct().get_set();
+    // The prover learns the set's invariant from this call.
+    let _schema = field.get_containing_struct();
     match read_field(alloc, MOST_WORDS, field, text) {
-        Ok(root) => {
-            let part = Part::Behind(schemas, element, pointer_of(field));
-            Ok(keep_part(root, part, first))
-        }
+        Ok(root) => Ok(keep_part(root, list_of_field(field, element), first)),
         Err(error) => Ok(Err(place_of(error, first)?)),
     }
 }
