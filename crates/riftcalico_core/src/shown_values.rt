@@ -190,10 +190,10 @@ fn list_of_field<'s>(field: Field<'s>, element: Type) -> Part<'s>
         ≡ ListSource (Left 62) (nth_tree s.pointers (offset_of (typed_of field.entry).field.kind)) (seen_type element) }
 {
     let schemas = field.get_containing_struct().get_set();
-    let Place::Pointer(index) = field.plan().place else {
+    let Place::Pointer(pointer) = field.plan().place else {
         unreachable!()
     };
-    Part::Behind(schemas, element, index)
+    Part::Behind(schemas, element, pointer)
 }
 
 /// The list of elements of a type that a text stands for, as the value of its field.
