@@ -1,5 +1,5 @@
 -- A step leads to the type of the field that it names, and at the end of a path that is the last one's.
-use Rattle.std.proofs.Common.{ℕ, ◌<◌, ◌≤◌, ◌≡◌, ◌∙◌, Bool, true, false, IfSome, List, Option, None, Some, length, nat_lt, slice_get, arith, ap, refl, subst, sym}
+use Rattle.std.proofs.Common.{ℕ, ◌<◌, ◌≤◌, ◌≡◌, ◌∙◌, Bool, true, false, IfSome, List, Option, None, Some, cond, length, nat_lt, arith, ap, refl, subst, sym}
 use Rattle.std.proofs.lemmas.Bool.Decides.{nat_tests}
 use Rattle.std.proofs.lemmas.Option.{slice_get_past}
 use Rattle.std.specs.Option.{option_and_then, option_map}
@@ -22,10 +22,11 @@ module _ (s : StructSchema) (g : ℕ) where
   type_at o = option_and_then (field_type (set_of s) (number_of s)) o
 
   numbered : (i : ℕ) (q : Bool) → nat_lt i (length (fields_of (set_of s) (number_of s))) ≡ q → type_behind (set_of s) (StructType (number_of s) g) (FieldNumber i) ≡ type_at (index_at (set_of s) (number_of s) (FieldNumber i))
-  numbered i true is = rw is in refl
+  numbered i true is = ap (λ (q : Bool). type_at (cond q (Some i) None)) (sym is)
   numbered i false is =
       let past : length (fields_of (set_of s) (number_of s)) ≤ i = grind (arith, nat_tests, is) in
-      rw (is, slice_get_past (fields_of (set_of s) (number_of s)) i past) in refl
+      ap (option_map (λ (x : TypedField). x.type)) (slice_get_past (fields_of (set_of s) (number_of s)) i past)
+      ∙ ap (λ (q : Bool). type_at (cond q (Some i) None)) (sym is)
 
   -- a step leads to the type of the field of its index
   led : (step : PathStep) → type_behind (set_of s) (StructType (number_of s) g) step ≡ type_at (index_at (set_of s) (number_of s) step)

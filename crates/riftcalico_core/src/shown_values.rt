@@ -150,11 +150,11 @@ fn keep_part<'s>(
 ) -> std::result::Result<ShownValue<'s>, usize>
     requires message { IsMessage root }
     requires root { message_tree root ≡ struct_tree (struct_in (message_tree root)) }
-    ensures source { IfOk result (λ w. shown_source w ≡ part_source part.entry (struct_in (message_tree root.entry))) }
-    ensures shallow { IfOk result (λ _. IsShallow (message_tree root.entry)) }
-    ensures sound { IfOk result (λ _. first_fault (message_tree root.entry) ≡ None) }
+    ensures source { IfOk result (λ w. shown_source w ≡ part_source part.entry (struct_in (message_tree root))) }
+    ensures shallow { IfOk result (λ _. IsShallow (message_tree root)) }
+    ensures sound { IfOk result (λ _. first_fault (message_tree root) ≡ None) }
     ensures place { IfErr result (λ place. place ≡ first) }
-    ensures deep { IfErr result (λ _. IsShallow (message_tree root.entry) → ⊥) }
+    ensures deep { IfErr result (λ _. IsShallow (message_tree root) → ⊥) }
 {
     if !root.is_shallow() {
         return Err(first);
