@@ -1,5 +1,5 @@
 -- A step leads to the type of the field that it names, and at the end of a path that is the last one's.
-use Rattle.std.proofs.Common.{ℕ, ◌<◌, ◌≤◌, ◌≡◌, ◌∙◌, Bool, true, false, IfSome, List, Option, None, Some, cond, length, nat_lt, arith, ap, refl, subst, sym}
+use Rattle.std.proofs.Common.{ℕ, ◌∷◌, ◌<◌, ◌≤◌, ◌≡◌, ◌∙◌, Bool, true, false, IfSome, List, Option, None, Some, cond, length, nat_lt, arith, ap, refl, subst, sym}
 use Rattle.std.proofs.lemmas.Bool.Decides.{nat_tests}
 use Rattle.std.proofs.lemmas.Option.{slice_get_past}
 use Rattle.std.specs.Option.{option_and_then, option_map}
@@ -14,8 +14,8 @@ use Rattle.capnp_schema.specs.declared.schema.fields.Field.{Field}
 use Rattle.capnp_schema.specs.declared.schema.structs.StructSchema.{StructSchema}
 use Rattle.capnp_records.specs.Call.{ElementAt, FieldNamed, FieldNumber, PathStep}
 use Rattle.capnp_slots.specs.Fields.{field_set}
-use Rattle.capnp_words.specs.Targets.{field_type, type_behind}
-use Rattle.riftcalico_core.specs.LastFields.{index_at, place_behind}
+use Rattle.capnp_words.specs.Targets.{field_type, type_along, type_behind}
+use Rattle.riftcalico_core.specs.LastFields.{index_at, last_place, place_behind}
 
 module _ (s : StructSchema) (g : ℕ) where
   abbrev type_at : Option ℕ → Option SchemaType
@@ -69,6 +69,18 @@ module _ (s : StructSchema) (g : ℕ) where
       of_schema : (o : Option ℕ) → IsFound s o (Some f) → field_set f ≡ set_of s
       of_schema None h = absurd h
       of_schema (Some i) h = ap set_of h.schema
+
+-- one step of a path goes on from where it leads, or nothing is there
+pub goes_on : (set : Schemas) (o q : Option (ℕ × ℕ)) (t u : SchemaType) (step : PathStep) (steps : List PathStep) → Some u ≡ type_behind set t step → q ≡ place_behind set t step
+    → last_place set q u steps ≡ last_place set o t (step ∷ steps)
+goes_on set o q t u step steps led placed =
+    ap (λ (p : Option (ℕ × ℕ)). last_place set p u steps) placed ∙ ap (option_and_then (λ (v : SchemaType). last_place set (place_behind set t step) v steps)) led
+
+pub goes_typed : (set : Schemas) (t u : SchemaType) (step : PathStep) (steps : List PathStep) → Some u ≡ type_behind set t step → type_along set u steps ≡ type_along set t (step ∷ steps)
+goes_typed set t u step steps led = ap (option_and_then (λ (v : SchemaType). type_along set v steps)) led
+
+pub stops : (set : Schemas) (o : Option (ℕ × ℕ)) (t : SchemaType) (step : PathStep) (steps : List PathStep) → None ≡ type_behind set t step → None ≡ last_place set o t (step ∷ steps)
+stops set o t step steps led = ap (option_and_then (λ (v : SchemaType). last_place set (place_behind set t step) v steps)) led
 
 -- at the end of a path is the type of the field that was named last
 pub last_typed : (set : Schemas) (o : Option Field) (t : SchemaType) (u : Option SchemaType) → Some t ≡ u → IfSome o (λ f. (field_set f ≡ set) × ((typed_of f).type ≡ t)) → IfSome o (λ f. (field_set f ≡ set) × (u ≡ Some (typed_of f).type))

@@ -25,6 +25,7 @@ pub mod PathsTaken
 pub mod PlainGiven
 pub mod Ran
 pub mod Roomless
+pub mod ShownGiven
 pub mod ShownRead
 pub mod ShownTaken
 pub mod Texts

@@ -54,11 +54,10 @@ given_type op t = t
 abbrev pub plain_read : Schemas → (floats : Bool) → SchemaType → (bytes : List ℕ) → (place : ℕ) → Read Source
 plain_read set floats t bytes place = shifted_read place (read_as (source_taken t) (marked_value_by_word set floats t bytes))
 
--- the field whose value is given; what edits of lists are given is an element
+-- the field that is set; what edits of lists are given is an element
 abbrev pub given_field : CallOp → Option (ℕ × ℕ) → Option (ℕ × ℕ)
-given_field (text.Append bytes place) f = None
-given_field (text.Insert i bytes place) f = None
-given_field op f = f
+given_field (text.Set bytes place) f = f
+given_field op f = None
 
 -- a value by its type: a struct or a list is given as a JSON text, or as it is printed
 abbrev pub IsValueBy : (whole : Bool) → Schemas → (field : Option (ℕ × ℕ)) → (floats : Bool) → SchemaType → (bytes : List ℕ) → (place : ℕ) → Read Source → Type 0

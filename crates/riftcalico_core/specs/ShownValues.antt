@@ -56,8 +56,8 @@ shown_value set f t s = value.Void
 
 -- the schema of a brand of a set
 pub record IsSchemaOf (set : Schemas) (b : ℕ) (schema : StructSchema) : Type 0 where
-  pub set : set_of schema ≡ set
-  pub number : number_of schema ≡ b
+  pub same_set : set_of schema ≡ set
+  pub same_number : number_of schema ≡ b
 
 -- a value of the type that the text's calls leave; a set takes a copy of it
 pub record IsShownRead (set : Schemas) (field : Option (ℕ × ℕ)) (t : SchemaType) (text : List ℕ) (s : Source) : Type 0 where

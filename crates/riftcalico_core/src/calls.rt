@@ -146,7 +146,7 @@ pub(crate) fn find_given_type(schema: StructSchema<'_>, call: &CallWord) -> Opti
     }
 }
 
-/// The field whose value a call is given, if the last step of its path names one. Edits are given elements.
+/// The field that a call sets, if the last step of its path names one. Edits are given elements.
 fn find_given_field<'s>(schema: StructSchema<'s>, call: &CallWord) -> Option<Field<'s>>
     ensures is { option_map place_of_field result ≡ given_field (said.op_text_seen call.now.op) (field_along (set_of schema.entry)
         (root_type (set_of schema.entry) (number_of schema.entry)) (said.path_text_seen call.now.path)) }
@@ -155,17 +155,18 @@ fn find_given_field<'s>(schema: StructSchema<'s>, call: &CallWord) -> Option<Fie
         (said.path_text_seen call.now.path)) ≡ Some (typed_of f).type)) }
 {
     match &call.op {
-        WordOp::Append(_, _) | WordOp::Insert(_, _, _) => None,
+        WordOp::Set(_, _) => find_last_field(schema, &call.path),
         WordOp::Get
         | WordOp::Has
         | WordOp::Which
-        | WordOp::Set(_, _)
         | WordOp::Init
         | WordOp::Initn(_)
         | WordOp::Clear
+        | WordOp::Append(_, _)
+        | WordOp::Insert(_, _, _)
         | WordOp::Remove(_)
         | WordOp::Resize(_)
-        | WordOp::Copy(_) => find_last_field(schema, &call.path),
+        | WordOp::Copy(_) => None,
     }
 }
 

@@ -6,7 +6,7 @@ ghost use Rattle.capnp_schema.specs.FieldLists.{IsFound, typed_of};
 ghost use Rattle.capnp_schema.specs.GroupsDown.{place_of_field};
 ghost use Rattle.capnp_schema.specs.Schema.{Schemas};
 ghost use Rattle.capnp_schema.specs.StructHandles.{generic_of, number_of, set_of};
-ghost use Rattle.capnp_schema.specs.Types.{ListType, StructType, seen_type};
+ghost use Rattle.capnp_schema.specs.Types.{ListType, StructType, seen_type, seen_variant};
 ghost use Rattle.capnp_slots.specs.Fields.{field_set};
 ghost use Rattle.capnp_words.specs.Seen.{path_text_seen, step_text_seen};
 ghost use Rattle.capnp_words.specs.Targets.{type_along, type_behind};
@@ -73,16 +73,19 @@ fn reach_element<'s>(element: Type, step: &PathStep) -> Option<Reached<'s>>
 }
 
 /// What a step names at a type of a set.
-#[tactic(auto, using(capnp_schema::specs::Facts::Layers::seen_which))]
-fn reach_behind<'s>(schemas: &'s SchemaSet, of: Type, step: &PathStep) -> Option<Reached<'s>>
+fn reach_behind<'s>(
+    schemas: &'s SchemaSet,
+    kind: TypeVariant,
+    step: &PathStep,
+) -> Option<Reached<'s>>
     ensures is { option_map (λ r. seen_type r.of) result
-        ≡ type_behind (lists_seen schemas.now) (seen_type of) (step_text_seen step.now) }
+        ≡ type_behind (lists_seen schemas.now) (seen_variant kind) (step_text_seen step.now) }
     ensures field { IfSome result (λ r. option_map place_of_field r.field
-        ≡ place_behind (lists_seen schemas.now) (seen_type of) (step_text_seen step.now)) }
+        ≡ place_behind (lists_seen schemas.now) (seen_variant kind) (step_text_seen step.now)) }
     ensures typed { IfSome result (λ r. IfSome r.field (λ f. (field_set f ≡ lists_seen schemas.now)
         × ((typed_of f).type ≡ seen_type r.of))) }
 {
-    match of.which() {
+    match kind {
         TypeVariant::Struct(raw) => reach_field(schemas.struct_schema(raw.number), step),
         TypeVariant::List(element) => reach_element(element, step),
         _ => None,
@@ -91,6 +94,7 @@ fn reach_behind<'s>(schemas: &'s SchemaSet, of: Type, step: &PathStep) -> Option
 
 /// The field that the last step of a path from a struct names, by the schema alone. None where the path is empty, where its
 /// last step names an element, and where it leads to nothing.
+#[tactic(auto, using(capnp_schema::specs::Facts::Layers::seen_which))]
 pub(crate) fn find_last_field<'s>(schema: StructSchema<'s>, path: &Path) -> Option<Field<'s>>
     ensures is { option_map place_of_field result ≡ field_along (set_of schema.entry)
         (StructType (number_of schema.entry) (generic_of schema.entry)) (path_text_seen path.now) }
@@ -103,7 +107,7 @@ pub(crate) fn find_last_field<'s>(schema: StructSchema<'s>, path: &Path) -> Opti
         field: None,
     };
     for step in &path.steps {
-        now = reach_behind(schema.get_set(), now.of, step)?;
+        now = reach_behind(schema.get_set(), now.of.which(), step)?;
     }
     now.field
 }
