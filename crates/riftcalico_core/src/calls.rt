@@ -148,6 +148,7 @@ pub(crate) fn find_given_type(schema: StructSchema<'_>, call: &CallWord) -> Opti
 
 /// The field that a call sets, if the last step of its path names one. Edits are given elements.
 fn find_given_field<'s>(schema: StructSchema<'s>, call: &CallWord) -> Option<Field<'s>>
+    requires { IsStruct schema }
     ensures is { option_map place_of_field result ≡ given_field (said.op_text_seen call.now.op) (field_along (set_of schema.entry)
         (root_type (set_of schema.entry) (number_of schema.entry)) (said.path_text_seen call.now.path)) }
     ensures typed { IfSome result (λ f. (field_set f ≡ set_of schema.entry) × (given_type (said.op_text_seen call.now.op)

@@ -12,8 +12,8 @@ use Rattle.riftcalico_core.proofs.shown_values.read_shown_list.Goals as goal
 
 pub returns-in-Ok-clause-read : goal.returns-in-Ok-clause-read
 returns-in-Ok-clause-read c =
-    list_if shown_source c.keep_part.result c.args.field (seen_type c.args.element) c.args.text.now (message_tree c.in-Ok.root) c.requires
-    (list_fits c.args.field c.get_containing_struct-_schema.result c.get_containing_struct-_schema.ensures.is c.get_containing_struct-_schema.ensures.stands c.args.field.inside) c.in-Ok.ensures.made
+    list_if shown_source c.keep_part.result c.args.field (seen_type c.args.element) c.args.text.now (message_tree c.in-Ok.root) c.requires.typed
+    (list_fits c.args.field c.get_containing_struct-schema.result c.get_containing_struct-schema.ensures.is c.get_containing_struct-schema.ensures.stands c.args.field.inside) c.in-Ok.ensures.made
     (part_is c.keep_part.result c.list_of_field.result (message_tree c.in-Ok.root) _ c.keep_part.ensures.source c.list_of_field.ensures) c.keep_part.ensures.sound
 
 pub returns-in-Ok-clause-unread : goal.returns-in-Ok-clause-unread
