@@ -222,7 +222,7 @@ expect 'floats in lists as JSON' $status 0 '(gain = 1.5, levels = [[1.5], [-0.1,
     'append texts "a\"b"' 'append texts c d' 'insert texts.0 ' 'append blobs 0x"00ff"' 'resize points 2' 'set points.1.x 5' \
     'copy points.0 points.1' 'resize rows 2' 'append rows.1 -5' 'append rows.1 6' 'remove rows.0' 'append numbers 9' 'copy text texts.1' \
     'copy point points.0' 'append points 1' > "$scratch/out" 2> "$scratch/err"
-expect 'an element that is no object' $? 2 '' "25: append points 1: can't be read at 14; wanted: a JSON object"
+expect 'an element that is no object' $? 2 '' "25: append points 1: can't be read at 14; wanted: (name = value, ..) or a JSON object"
 ./riftcalico new --set "$scratch/kinds.set" Kinds 'append flags true' 'append flags false' 'insert flags.1 true' 'append voids ()' \
     'append voids ()' 'remove voids.1' 'append wide -1' 'insert wide.0 9223372036854775807' 'append colors blue' 'append colors 7' \
     'append texts "a\"b"' 'append texts c d' 'insert texts.0 ' 'append blobs 0x"00ff"' 'resize points 2' 'set points.1.x 5' \

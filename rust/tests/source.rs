@@ -11,6 +11,7 @@ mod diffs;
 mod edits;
 mod float_texts;
 mod floats;
+mod given_texts;
 mod json;
 mod json_text;
 mod list_edits;

@@ -1,5 +1,5 @@
-//! Lists that words edit, parts that they copy, and structs and lists that they give as JSON texts. A row is as those of
-//! `rows.rt`; the messages are the public tool's.
+//! Lists that words edit, parts that they copy, and structs and lists that they give as JSON texts or as they are printed. A
+//! row is as those of `rows.rt`; the messages are the public tool's.
 use crate::tests::rows_are_so;
 use std::test::Fail;
 
@@ -210,4 +210,63 @@ const GIVEN: &str = "\
 #[test]
 fn structs_and_lists_are_given_as_json(rt: HostRuntime) -> Result<(), Fail> {
     rows_are_so(&rt, rt.alloc(), GIVEN)
+}
+
+/// Structs and lists that are given as they are printed.
+const SHOWN: &str = "\
+# the same lists; a field that is not named has its default
+:new
+:Lists
+:set bytes [1, 2]
+:set items [(a = 1), (a = 2)]
+<
+=0
+>0000000009000000 0000000000000400 0d00000012000000 0000000000000000 0000000000000000 0500000017000000 \
+    0102000000000000 0800000001000000 0100000000000000 0200000000000000
+
+# groups, of which the second leaves nothing of the first
+:new
+:Shapes
+:set circle (r = 5)
+:set tag  ( n=3,\tu1 = 9 )
+:get tag.u1
+<
+=0
+>0000000005000000 0000000002000200 0000010003000100 0900000000000000 0000000000000000 0000000000000000
+!3: get tag.u1 = 9
+
+# elements behind, in front of and in place of others
+:new
+:Lists
+:append items (a = 3)
+:insert items.0 ()
+:set items.1 (a = 4)
+:get items.0.a
+:get items.1.a
+:set items []
+:set items [()]
+:get items
+:get itemz
+<
+=1
+!4: get items.0.a = 0
+!5: get items.1.a = 4
+!8: get items = [1 elements]
+!9: get itemz: refused: 20 FieldNotFound in Lists; near: items
+
+# structs within one another, as deep as they are printed
+:new
+:Loop
+:set again (again = (end = ()))
+:which again.again
+<
+=0
+>0000000007000000 0000000001000100 0100000000000000 0000000001000100 0100000000000000 0000000001000100 \
+    0000000000000000 0000000000000000
+!2: which again.again = #0
+";
+
+#[test]
+fn structs_and_lists_are_given_as_printed(rt: HostRuntime) -> Result<(), Fail> {
+    rows_are_so(&rt, rt.alloc(), SHOWN)
 }

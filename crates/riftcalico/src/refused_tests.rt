@@ -307,21 +307,44 @@ new|Flat|clear a b -> 1: clear a b: can't be read at 7; usage
 /// Values of structs and lists that can't be read, and what is told.
 const UNREADABLE_JSON: &str = "\
 # no such field, a number past its type, a field that is given twice
-new|Lists|set items [{\"a\":1},{\"b\":2}] -> 1: set items [{\"a\":1},{\"b\":2}]: can't be read at 20; wanted: a JSON array
-patch|Lists|append items {\"a\":65536} -> 1: append items {\"a\":65536}: can't be read at 18; wanted: a JSON object
-new|Lists|get t|insert items.0 {\"a\":1,\"a\":2} -> 2: insert items.0 {\"a\":1,\"a\":2}: can't be read at 22; wanted: a JSON object
+new|Lists|set items [{\"a\":1},{\"b\":2}] -> 1: set items [{\"a\":1},{\"b\":2}]: can't be read at 20; wanted: [value, ..] or a JSON array
+patch|Lists|append items {\"a\":65536} -> 1: append items {\"a\":65536}: can't be read at 18; wanted: (name = value, ..) or a JSON object
+new|Lists|get t|insert items.0 {\"a\":1,\"a\":2} -> 2: insert items.0 {\"a\":1,\"a\":2}: can't be read at 22; wanted: (name = value, ..) or a JSON object
 # an object is no list, null is none, and neither is a number
-new|Lists|set items {\"a\":1} -> 1: set items {\"a\":1}: can't be read at 10; wanted: a JSON array
-new|Lists|set items  null -> 1: set items  null: can't be read at 11; wanted: a JSON array
-new|Lists|append items 1 -> 1: append items 1: can't be read at 13; wanted: a JSON object
+new|Lists|set items {\"a\":1} -> 1: set items {\"a\":1}: can't be read at 10; wanted: [value, ..] or a JSON array
+new|Lists|set items  null -> 1: set items  null: can't be read at 11; wanted: [value, ..] or a JSON array
+new|Lists|append items 1 -> 1: append items 1: can't be read at 13; wanted: (name = value, ..) or a JSON object
 # no JSON
-new|Lists|set bytes [1,2 -> 1: set bytes [1,2: can't be read at 14; wanted: a JSON array
-new|Lists|set bytes [1]] -> 1: set bytes [1]]: can't be read at 13; wanted: a JSON array
+new|Lists|set bytes [1,2 -> 1: set bytes [1,2: can't be read at 14; wanted: [value, ..] or a JSON array
+new|Lists|set bytes [1]] -> 1: set bytes [1]]: can't be read at 13; wanted: [value, ..] or a JSON array
 ";
 
 #[test]
 fn json_that_cannot_be_read_is_told_with_its_place(rt: HostRuntime) -> Result<(), Fail> {
     rows_hold(&rt, rt.alloc(), false, UNREADABLE_JSON)
+}
+
+/// Printed structs and lists that can't be read, and what is told.
+const UNREADABLE_SHOWN: &str = "\
+# no such field, a number past its type, a field that is given twice, two members of a union
+new|Lists|set items [(a = 1), (b = 2)] -> 1: set items [(a = 1), (b = 2)]: can't be read at 21; wanted: [value, ..] or a JSON array
+patch|Lists|append items (a = 65536) -> 1: append items (a = 65536): can't be read at 22; wanted: (name = value, ..) or a JSON object
+new|Lists|get t|insert items.0 (a = 1, a = 2) -> 2: insert items.0 (a = 1, a = 2): can't be read at 23; wanted: (name = value, ..) or a JSON object
+new|Shapes|set tag (u0 = (), u1 = 1) -> 1: set tag (u0 = (), u1 = 1): can't be read at 18; wanted: (name = value, ..) or a JSON object
+# a struct is no list, and a list no struct; a text that ends too soon, and one with bytes behind it
+new|Lists|set items (a = 1) -> 1: set items (a = 1): can't be read at 10; wanted: [value, ..] or a JSON array
+new|Lists|set items.0 [1] -> 1: set items.0 [1]: can't be read at 12; wanted: (name = value, ..) or a JSON object
+new|Lists|set items  [(a = 1) -> 1: set items  [(a = 1): can't be read at 19; wanted: [value, ..] or a JSON array
+new|Lists|set items.0 (a = 1)) -> 1: set items.0 (a = 1)): can't be read at 19; wanted: (name = value, ..) or a JSON object
+# neither form goes on there, of two places the further one: `t` begins `true`
+new|Lists|set items [{\"a\": 1}, {\"a\": }] -> 1: set items [{\"a\": 1}, {\"a\": }]: can't be read at 27; wanted: [value, ..] or a JSON array
+new|Lists|set bytes [1, two] -> 1: set bytes [1, two]: can't be read at 15; wanted: [value, ..] or a JSON array
+new|Lists|set bytes [1, 0x1] -> 1: set bytes [1, 0x1]: can't be read at 15; wanted: [value, ..] or a JSON array
+";
+
+#[test]
+fn printed_values_that_cannot_be_read_are_told_with_their_place(rt: HostRuntime) -> Result<(), Fail> {
+    rows_hold(&rt, rt.alloc(), false, UNREADABLE_SHOWN)
 }
 
 #[test]

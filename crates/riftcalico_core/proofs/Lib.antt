@@ -10,6 +10,7 @@ pub mod EachRead
 pub mod FirstOf
 pub mod HeadedLines
 pub mod JsonTold
+pub mod LastFields
 pub mod LinesGot
 pub mod LinesRead
 pub mod ListingsAsked
@@ -24,6 +25,9 @@ pub mod PathsTaken
 pub mod PlainGiven
 pub mod Ran
 pub mod Roomless
+pub mod ShownGiven
+pub mod ShownRead
+pub mod ShownTaken
 pub mod Texts
 pub mod Told
 pub mod Unreached

@@ -17,7 +17,8 @@ use Rattle.capnp_words.specs.Reads.{Read, read_as}
 use Rattle.capnp_words.specs.Targets.{type_along}
 use Rattle.capnp_words.specs.Marked.{marked_value_by_word}
 use Rattle.capnp_json_messages.specs.Ones.{is_whole}
-use Rattle.riftcalico_core.specs.JsonValues.{IsWholeGiven}
+use Rattle.riftcalico_core.specs.LastFields.{field_along}
+use Rattle.riftcalico_core.specs.ShownValues.{IsGivenBy, shown_fault}
 
 -- what is given to a set, by the type of what is set
 abbrev pub source_taken : SchemaType → Value → Source
@@ -53,30 +54,35 @@ given_type op t = t
 abbrev pub plain_read : Schemas → (floats : Bool) → SchemaType → (bytes : List ℕ) → (place : ℕ) → Read Source
 plain_read set floats t bytes place = shifted_read place (read_as (source_taken t) (marked_value_by_word set floats t bytes))
 
--- a value by its type: a struct or a list is given as a JSON text
-abbrev pub IsValueBy : (whole : Bool) → Schemas → (floats : Bool) → SchemaType → (bytes : List ℕ) → (place : ℕ) → Read Source → Type 0
-IsValueBy true set floats t bytes place r = IsWholeGiven set floats t bytes place r
-IsValueBy false set floats t bytes place r = r ≡ plain_read set floats t bytes place
+-- the field that is set; what edits of lists are given is an element
+abbrev pub given_field : CallOp → Option (ℕ × ℕ) → Option (ℕ × ℕ)
+given_field (text.Set bytes place) f = f
+given_field op f = None
+
+-- a value by its type: a struct or a list is given as a JSON text, or as it is printed
+abbrev pub IsValueBy : (whole : Bool) → Schemas → (field : Option (ℕ × ℕ)) → (floats : Bool) → SchemaType → (bytes : List ℕ) → (place : ℕ) → Read Source → Type 0
+IsValueBy true set field floats t bytes place r = IsGivenBy (shown_fault bytes) set field floats t bytes place r
+IsValueBy false set field floats t bytes place r = r ≡ plain_read set floats t bytes place
 
 -- Where there is no type the call is refused for its path, whatever it is given.
-abbrev pub IsSourceRead : Schemas → (floats : Bool) → Option SchemaType → (bytes : List ℕ) → (place : ℕ) → Read Source → Type 0
-IsSourceRead set floats None bytes place r = r ≡ Ok VoidSource
-IsSourceRead set floats (Some t) bytes place r = IsValueBy (is_whole t) set floats t bytes place r
+abbrev pub IsSourceRead : Schemas → (field : Option (ℕ × ℕ)) → (floats : Bool) → Option SchemaType → (bytes : List ℕ) → (place : ℕ) → Read Source → Type 0
+IsSourceRead set field floats None bytes place r = r ≡ Ok VoidSource
+IsSourceRead set field floats (Some t) bytes place r = IsValueBy (is_whole t) set field floats t bytes place r
 
 -- what a call or an edit is given, under the type of its value; of those that have no value nothing, which is a void here
-abbrev pub IsSourceGiven : Schemas → (floats : Bool) → Option SchemaType → CallOp → Read Source → Type 0
-IsSourceGiven set floats t (text.Set bytes place) r = IsSourceRead set floats t bytes place r
-IsSourceGiven set floats t (text.Append bytes place) r = IsSourceRead set floats t bytes place r
-IsSourceGiven set floats t (text.Insert i bytes place) r = IsSourceRead set floats t bytes place r
-IsSourceGiven set floats t text.Get r = r ≡ Ok VoidSource
-IsSourceGiven set floats t text.Has r = r ≡ Ok VoidSource
-IsSourceGiven set floats t text.Which r = r ≡ Ok VoidSource
-IsSourceGiven set floats t text.Init r = r ≡ Ok VoidSource
-IsSourceGiven set floats t (text.Initn size) r = r ≡ Ok VoidSource
-IsSourceGiven set floats t text.Clear r = r ≡ Ok VoidSource
-IsSourceGiven set floats t (text.Remove i) r = r ≡ Ok VoidSource
-IsSourceGiven set floats t (text.Resize count) r = r ≡ Ok VoidSource
-IsSourceGiven set floats t (text.Copy from) r = r ≡ Ok VoidSource
+abbrev pub IsSourceGiven : Schemas → (field : Option (ℕ × ℕ)) → (floats : Bool) → Option SchemaType → CallOp → Read Source → Type 0
+IsSourceGiven set field floats t (text.Set bytes place) r = IsSourceRead set field floats t bytes place r
+IsSourceGiven set field floats t (text.Append bytes place) r = IsSourceRead set field floats t bytes place r
+IsSourceGiven set field floats t (text.Insert i bytes place) r = IsSourceRead set field floats t bytes place r
+IsSourceGiven set field floats t text.Get r = r ≡ Ok VoidSource
+IsSourceGiven set field floats t text.Has r = r ≡ Ok VoidSource
+IsSourceGiven set field floats t text.Which r = r ≡ Ok VoidSource
+IsSourceGiven set field floats t text.Init r = r ≡ Ok VoidSource
+IsSourceGiven set field floats t (text.Initn size) r = r ≡ Ok VoidSource
+IsSourceGiven set field floats t text.Clear r = r ≡ Ok VoidSource
+IsSourceGiven set field floats t (text.Remove i) r = r ≡ Ok VoidSource
+IsSourceGiven set field floats t (text.Resize count) r = r ≡ Ok VoidSource
+IsSourceGiven set field floats t (text.Copy from) r = r ≡ Ok VoidSource
 
 -- the path of what is copied; else none
 abbrev pub from_of : CallOp → List PathStep
@@ -117,5 +123,5 @@ act_given c s = act_placed c.path s (from_of c.op) c.op
 -- a call or an edit as it is read, with the type of the root
 pub record IsCallRead (set : Schemas) (root : SchemaType) (c : CallText) (r : Read ActSeen) : Type 0 where
   pub source : Read Source
-  pub given : IsSourceGiven set (floats_along set root c.path) (given_type c.op (type_along set root c.path)) c.op source
+  pub given : IsSourceGiven set (given_field c.op (field_along set root c.path)) (floats_along set root c.path) (given_type c.op (type_along set root c.path)) c.op source
   pub act : r ≡ read_as (act_given c) source

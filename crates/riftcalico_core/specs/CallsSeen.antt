@@ -10,6 +10,7 @@ use Rattle.capnp_words.specs.declared.value.PlainValue.{PlainValue}
 use Rattle.capnp_words.specs.declared.value.PlainValue.TheVariants as plain
 use Rattle.riftcalico_core.specs.Calls.{act_placed}
 use Rattle.riftcalico_core.specs.JsonValues.{whole_source}
+use Rattle.riftcalico_core.specs.ShownSeen.{shown_source}
 use Rattle.riftcalico_core.specs.Reads.{Reads}
 use Rattle.riftcalico_core.specs.declared.calls.GivenValue.{GivenValue}
 use Rattle.riftcalico_core.specs.declared.calls.GivenValue.TheVariants as given
@@ -36,6 +37,7 @@ word_value_source (plain.«Data» bytes) = DataSource bytes.items
 abbrev pub given_value_source : GivenValue → Source
 given_value_source (given.Plain v) = word_value_source v
 given_value_source (given.Whole w) = whole_source w
+given_value_source (given.Shown w) = shown_source w
 
 -- a call or an edit that was read, with its value and its steps
 abbrev pub given_source : ReadCall → Source

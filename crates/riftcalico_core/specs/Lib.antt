@@ -16,6 +16,7 @@ pub mod Inputs
 pub mod Jobs
 pub mod Json
 pub mod JsonValues
+pub mod LastFields
 pub mod Lines
 pub mod Names
 pub mod Near
@@ -31,6 +32,8 @@ pub mod Reads
 pub mod Replies
 pub mod Room
 pub mod Shown
+pub mod ShownSeen
+pub mod ShownValues
 pub mod Steps
 pub mod Wanted
 pub mod Whole

@@ -4,6 +4,7 @@ pub mod JsonValues
 pub mod Kinds
 pub mod Plans
 pub mod RepliesSeen
+pub mod ShownValues
 pub mod Told
 pub mod Whole
 pub mod Wordless

@@ -35,8 +35,8 @@ wanted_words set floats (UIntType bytes) = unsigned_words floats bytes
 wanted_words set floats (EnumType e) = names_listed (enum_at set e).enumerants ++ codes "0 to 65535"
 wanted_words set floats TextType = codes "a text, in quotes or as it stands"
 wanted_words set floats DataType = codes "0x\"00ff\""
-wanted_words set floats (StructType b g) = codes "a JSON object"
-wanted_words set floats (ListType e) = codes "a JSON array"
+wanted_words set floats (StructType b g) = codes "(name = value, ..) or a JSON object"
+wanted_words set floats (ListType e) = codes "[value, ..] or a JSON array"
 wanted_words set floats AnyPointerType = codes "no word"
 
 abbrev pub wanted_note : Schemas → (floats : Bool) → Option SchemaType → List ℕ

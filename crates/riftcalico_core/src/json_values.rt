@@ -151,7 +151,7 @@ fn place_too_deep(text: &[u8], first: usize) -> Result<usize>
 }
 
 /// The place of the first byte behind blanks.
-fn find_begin(text: &[u8]) -> usize
+pub(crate) fn find_begin(text: &[u8]) -> usize
     ensures { result ≡ begin text.now }
 {
     text.len().saturating_sub(skip_blanks(text).len())

@@ -88,8 +88,8 @@ fn put_wanted(note: &mut String, schemas: &SchemaSet, floats: bool, kind: TypeVa
         }
         TypeVariant::Text => Ok(note.push_str("a text, in quotes or as it stands")?),
         TypeVariant::Data => Ok(note.push_str("0x\"00ff\"")?),
-        TypeVariant::Struct(_) => Ok(note.push_str("a JSON object")?),
-        TypeVariant::List(_) => Ok(note.push_str("a JSON array")?),
+        TypeVariant::Struct(_) => Ok(note.push_str("(name = value, ..) or a JSON object")?),
+        TypeVariant::List(_) => Ok(note.push_str("[value, ..] or a JSON array")?),
         TypeVariant::AnyPointer => Ok(note.push_str("no word")?),
     }
 }
