@@ -1,10 +1,10 @@
 pub mod Added
-pub mod Found
 pub mod Grammar
 pub mod LeavesSet
 pub mod LeavesStand
 pub mod LinesRead
 pub mod Making
+pub mod Named
 pub mod PlainGiven
 pub mod Refusals
 pub mod RowsCalls

@@ -2,7 +2,7 @@
 use Rattle.std.specs.Prelude.{ℕ, suc, ◌+◌, List, [], ◌∷◌, ◌++◌, map, Bool, true, false, cond, ◌==◌, ◌||◌, min, nat_lt, pos, Option, Some, None, Ok, Err}
 use Rattle.capnp_schema.specs.Query.{field_named, records_of}
 use Rattle.capnp_schema.specs.Schema.{Schemas, TypedField, field_at, is_member}
-use Rattle.capnp_schema.specs.Types.{SchemaType, VoidType, BoolType, IntType, UIntType, EnumType, TextType, DataType, StructType, ListType, AnyPointerType}
+use Rattle.capnp_schema.specs.Types.{SchemaType, VoidType, BoolType, IntType, UIntType, EnumType, TextType, DataType, StructType, ListType}
 use Rattle.capnp_records.specs.Call.{BoolSource, Call, DataSource, ElementAt, EnumSource, FieldNumber, Init, Initn, IntSource, Op, PathStep, Set, Source, TextSource, UIntSource, VoidSource}
 use Rattle.capnp_records.specs.Record as value
 use Rattle.capnp_records.specs.Record.{Value}
@@ -120,27 +120,12 @@ void_calls place count t = cond (count == 0) (Ok (one_call t.step (Set VoidSourc
 
 abbrev pub fields_calls : (place count : ℕ) → PartsMake → Target → SchemaType → Read (List Call)
 fields_calls place count parts t VoidType = void_calls place count t
-fields_calls place count parts t BoolType = refused CannotStand place
-fields_calls place count parts t (IntType bytes) = refused CannotStand place
-fields_calls place count parts t (UIntType bytes) = refused CannotStand place
-fields_calls place count parts t (EnumType number) = refused CannotStand place
-fields_calls place count parts t TextType = refused CannotStand place
-fields_calls place count parts t DataType = refused CannotStand place
 fields_calls place count parts t (StructType b g) = held_calls place count t.step (begun t) (parts (InStruct b) 0 [])
-fields_calls place count parts t (ListType element) = refused CannotStand place
-fields_calls place count parts t AnyPointerType = refused CannotStand place
+fields_calls place count parts t other = refused CannotStand place
 
 abbrev pub items_calls : (place count : ℕ) → PartsMake → Target → SchemaType → Read (List Call)
-items_calls place count parts t VoidType = refused CannotStand place
-items_calls place count parts t BoolType = refused CannotStand place
-items_calls place count parts t (IntType bytes) = refused CannotStand place
-items_calls place count parts t (UIntType bytes) = refused CannotStand place
-items_calls place count parts t (EnumType number) = refused CannotStand place
-items_calls place count parts t TextType = refused CannotStand place
-items_calls place count parts t DataType = refused CannotStand place
-items_calls place count parts t (StructType b g) = refused CannotStand place
 items_calls place count parts t (ListType element) = held_calls place count t.step (list_begun count t) (parts (InList element t.floats) 0 [])
-items_calls place count parts t AnyPointerType = refused CannotStand place
+items_calls place count parts t other = refused CannotStand place
 
 abbrev pub part_count : Parts → ℕ
 part_count NoPart = 0

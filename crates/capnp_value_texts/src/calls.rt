@@ -332,9 +332,10 @@ pub fn root_calls<'s>(
         (shown_view shown.now))) }
 {
     match shown {
-        Shown::Leaf(place, _word) => Err(refused(RefusalKind::CannotStand, *place)),
         Shown::Fields(place, parts) => root_fields(alloc, schema, *place, parts),
-        Shown::Items(place, _parts) => Err(refused(RefusalKind::CannotStand, *place)),
+        Shown::Leaf(place, _) | Shown::Items(place, _) => {
+            Err(refused(RefusalKind::CannotStand, *place))
+        }
     }
 }
 

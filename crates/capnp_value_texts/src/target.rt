@@ -76,27 +76,18 @@ fn is_given(mark: u32, given: &[u32]) -> bool
     false
 }
 
-/// The name of a field.
-fn field_name<'s>(field: Field<'s>) -> &'s [u8]
-    ensures { result.now ≡ (typed_of field.entry).field.name }
-{
-    field.get_proto().name.as_bytes()
-}
-
-/// The field of a struct or group that has a name.
+/// The field of a struct or group that has a name, which is a text: what is no UTF-8 is the name of none.
+#[tactic(auto, using(crate::proofs::Named::none_named))]
 fn find_named<'s>(schema: StructSchema<'s>, name: &[u8]) -> Option<Field<'s>>
     ensures { IsFound schema.entry (field_named (struct_records schema.entry) name.now) result }
 {
-    let Ok(fields) = schema.get_fields() else {
+    let Ok(name) = std::str::from_utf8(name) else {
+        return None;
+    };
+    let Ok(found) = schema.find_field_by_name(name) else {
         unreachable!()
     };
-    for index in 0..fields.len() {
-        let field = fields.get(index);
-        if field_name(field) == name {
-            return Some(field);
-        }
-    }
-    None
+    found
 }
 
 /// The target of a field at a name's place, which is given from then on.

@@ -77,7 +77,8 @@ fn run_made(
 /// has it.
 ///
 /// Refused as `crate::shown::read_shown` and then as `crate::calls::field_calls`, with the place; with `NotMade` where a
-/// call by which the value is made is refused, as for a message past its limit; and with `OutOfMemory`.
+/// call by which the value is made is refused, as past the limit, for room only one that takes memory; and with
+/// `OutOfMemory`.
 ///
 /// # Conditions
 ///
