@@ -1,14 +1,13 @@
 -- A step leads to the type of the field that it names, and at the end of a path that is the last one's.
-use Rattle.std.proofs.Common.{ℕ, ◌∷◌, ◌<◌, ◌≤◌, ◌≡◌, ◌∙◌, Bool, true, false, IfSome, List, Option, None, Some, cond, length, nat_lt, arith, ap, refl, subst, sym}
+use Rattle.std.proofs.Common.{ℕ, ◌∷◌, ◌≤◌, ◌≡◌, ◌∙◌, Bool, true, false, IfSome, List, Option, None, Some, cond, length, nat_lt, arith, ap, refl, sym}
 use Rattle.std.proofs.lemmas.Bool.Decides.{nat_tests}
 use Rattle.std.proofs.lemmas.Option.{slice_get_past}
 use Rattle.std.specs.Option.{option_and_then, option_map}
 use Rattle.capnp_schema.specs.Facts.Fields.{entry_some}
-use Rattle.capnp_schema.specs.FieldLists.{IsFound, field_schema, index_of, typed_of}
+use Rattle.capnp_schema.specs.FieldLists.{IsFound, index_of, typed_of}
 use Rattle.capnp_schema.specs.GroupsDown.{place_of_field}
-use Rattle.capnp_schema.specs.Query.{field_named}
 use Rattle.capnp_schema.specs.Schema.{Schemas, TypedField, field_at, fields_of, no_field}
-use Rattle.capnp_schema.specs.StructHandles.{number_of, set_of, struct_field, struct_records}
+use Rattle.capnp_schema.specs.StructHandles.{number_of, set_of, struct_field}
 use Rattle.capnp_schema.specs.Types.{SchemaType, StructType}
 use Rattle.capnp_schema.specs.declared.schema.fields.Field.{Field}
 use Rattle.capnp_schema.specs.declared.schema.structs.StructSchema.{StructSchema}

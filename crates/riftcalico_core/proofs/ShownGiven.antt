@@ -1,17 +1,13 @@
 -- A root that is a struct is read as that, with 63 levels, and what it is of the value.
-use Rattle.std.proofs.Common.{◌≡◌, ℕ, Result, Ok, Err, ap, sym, ◌∙◌}
+use Rattle.std.proofs.Common.{◌≡◌, ℕ, Result, Ok, Err, ap, ◌∙◌}
 use Rattle.capnp_device.specs.declared.error.ErrorKind.{ErrorKind}
 use Rattle.capnp_wire.specs.Edits.{struct_in}
 use Rattle.capnp_wire.specs.Place.{struct_tree}
 use Rattle.capnp_wire.specs.Reading.{as_struct}
 use Rattle.capnp_wire.specs.Tree.{StructTree, Tree}
-use Rattle.capnp_arena.specs.Message.{message_tree}
-use Rattle.capnp_arena.specs.declared.arena.Arena.{Arena}
 use Rattle.capnp_schema.specs.Types.{SchemaType}
-use Rattle.capnp_records.specs.Call.{ListSource, Source, StructSource}
+use Rattle.capnp_records.specs.Call.{ListSource, StructSource}
 use Rattle.capnp_records.specs.Record.{Left}
-use Rattle.riftcalico_core.specs.ShownSeen.{part_source, shown_source}
-use Rattle.riftcalico_core.specs.declared.shown_values.Part.{Part}
 
 abbrev there : StructTree → Result StructTree ErrorKind
 there s = Ok s

@@ -27,7 +27,7 @@ use Rattle.capnp_value_texts.specs.declared.error.Refusal.{Refusal}
 use Rattle.riftcalico_core.specs.JsonValues.{begin}
 use Rattle.riftcalico_core.specs.ShownSeen.{part_source, shown_source}
 use Rattle.riftcalico_core.specs.declared.shown_values.Part.{Part}
-use Rattle.riftcalico_core.specs.ShownValues.{IsSchemaOf, IsShownRead, IsShownUnread, IsUnmade, Making, not_made, refused, too_deep}
+use Rattle.riftcalico_core.specs.ShownValues.{IsSchemaOf, IsShownRead, IsUnmade, Making, not_made, refused, too_deep}
 use Rattle.riftcalico_core.specs.Steps.ShownValues.{IsPlaceOf}
 use Rattle.riftcalico_core.proofs.ShownTaken.{list_taken, root_below, root_sound, struct_taken}
 

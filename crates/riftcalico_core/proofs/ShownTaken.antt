@@ -1,5 +1,5 @@
 -- What a root of calls holds is taken by a set as it stands there.
-use Rattle.std.proofs.Common.{◌≡◌, ℕ, Bool, true, false, None, cond, ◌==◌, ◌<◌, length, Option, Some, List, Ok, Err, option_map, refl, arith, ap, sym, subst, ◌∙◌}
+use Rattle.std.proofs.Common.{◌≡◌, ℕ, Bool, true, false, None, cond, ◌==◌, length, option_map, refl, arith, ap, sym, subst, ◌∙◌}
 use Rattle.std.proofs.lemmas.Bool.Decides.{nat_tests}
 use Rattle.capnp_device.specs.declared.error.ErrorKind.TheVariants.{TypeMismatch}
 use Rattle.capnp_wire.specs.Depth.{AreBelow, IsShallow}
@@ -12,7 +12,6 @@ use Rattle.capnp_schema.specs.Accepted.{GroupFits}
 use Rattle.capnp_schema.specs.Plan.{plan_place}
 use Rattle.capnp_schema.specs.Schema.{FieldKind, Group, Schemas, Slot, TypedField}
 use Rattle.capnp_schema.specs.Types.{ListType, SchemaType, StructType}
-use Rattle.capnp_schema.specs.declared.plan.Place.{Place}
 use Rattle.capnp_schema.specs.declared.plan.Place.TheVariants as place
 use Rattle.capnp_records.specs.Call.{ListSource, StructSource}
 use Rattle.capnp_records.specs.Facts.Extension.{reads_rounded}

@@ -20,7 +20,6 @@ ghost use Rattle.capnp_records.specs.Writes.TreeEnds.{offset_of};
 ghost use Rattle.std.specs.Option.{option_map};
 ghost use Rattle.capnp_slots.specs.Fields.{field_set};
 ghost use Rattle.capnp_slots.specs.SetValues.{source_of};
-ghost use Rattle.riftcalico_core.specs.JsonValues.{begin};
 ghost use Rattle.riftcalico_core.specs.ShownSeen.{part_source, shown_source};
 ghost use Rattle.riftcalico_core.specs.ShownValues.{IsShownRead, IsShownUnread, begins_shown, shown_fault};
 ghost use Rattle.riftcalico_core.specs.Steps.ShownValues.{IsPlaceOf};
