@@ -343,9 +343,7 @@ new|Lists|set bytes [1, 0x1] -> 1: set bytes [1, 0x1]: can't be read at 15; want
 ";
 
 #[test]
-fn printed_values_that_cannot_be_read_are_told_with_their_place(
-    rt: HostRuntime,
-) -> Result<(), Fail> {
+fn printed_values_that_cannot_be_read_are_told(rt: HostRuntime) -> Result<(), Fail> {
     rows_hold(&rt, rt.alloc(), false, UNREADABLE_SHOWN)
 }
 
