@@ -68,11 +68,11 @@ plain_bytes ds up down h = by_place (down == 0) (nat_lt down (length ds))
     by_place : (p q : Bool) → AreLeafBytes (cond p (ds ++ replicate up 48) (cond q (take (length ds - down) ds ++ codes "." ++ drop (length ds - down) ds) (codes "0." ++ replicate (down - length ds) 48 ++ ds)))
     by_place true q = first_some ds (replicate up 48) h (each_replicate is_leaf_byte up 48 refl)
     by_place false true =
-        last_some (take (length ds - down) ds) (codes "." ++ drop (length ds - down) ds) (each_take is_leaf_byte (length ds - down) ds h.each)
-        (first_some (codes ".") (drop (length ds - down) ds) (record { some = omega arith; each = (refl, tt) }) (each_drop is_leaf_byte (length ds - down) ds h.each))
+        first_some (take (length ds - down) ds ++ codes ".") (drop (length ds - down) ds)
+        (last_some (take (length ds - down) ds) (codes ".") (each_take is_leaf_byte (length ds - down) ds h.each) (record { some = omega arith; each = (refl, tt) })) (each_drop is_leaf_byte (length ds - down) ds h.each)
     by_place false false =
-        first_some (codes "0.") (replicate (down - length ds) 48 ++ ds) (record { some = omega arith; each = (refl, (refl, tt)) })
-        (each_append is_leaf_byte (replicate (down - length ds) 48) ds (each_replicate is_leaf_byte (down - length ds) 48 refl) h.each)
+        first_some (codes "0." ++ replicate (down - length ds) 48) ds
+        (first_some (codes "0.") (replicate (down - length ds) 48) (record { some = omega arith; each = (refl, (refl, tt)) }) (each_replicate is_leaf_byte (down - length ds) 48 refl)) h.each
 
 two_digits_bytes : (n : ℕ) → n < 2 ^ 64 → Each is_leaf_byte (two_digits_text n)
 two_digits_bytes n h = by_size (nat_lt n 10)
@@ -97,8 +97,8 @@ others_bytes ds h = by_count (nat_lt 1 (length ds))
 
 scientific_bytes : (ds : List ℕ) (up down : ℕ) → Each is_leaf_byte ds → length ds - 1 + up < 2 ^ 64 → down < 2 ^ 64 → AreLeafBytes (scientific_text ds up down)
 scientific_bytes ds up down h few k =
-    last_some (take 1 ds) (others_text ds ++ power_text (length ds - 1 + up) down) (each_take is_leaf_byte 1 ds h)
-    (last_some (others_text ds) (power_text (length ds - 1 + up) down) (others_bytes ds h) (power_bytes (length ds - 1 + up) down few k))
+    last_some (take 1 ds ++ others_text ds) (power_text (length ds - 1 + up) down) (each_append is_leaf_byte (take 1 ds) (others_text ds) (each_take is_leaf_byte 1 ds h) (others_bytes ds h))
+    (power_bytes (length ds - 1 + up) down few k)
 
 digits_bytes : (w : Width) (ds : List ℕ) (up down : ℕ) → AreLeafBytes ds → length ds - 1 + up < 2 ^ 64 → down < 2 ^ 64 → AreLeafBytes (digits_text w ds up down)
 digits_bytes w ds up down h few k = by_layout (is_plain w (length ds) up down)

@@ -14,6 +14,7 @@ pub mod PlacesMade
 pub mod ReadBack
 pub mod ReadersBack
 pub mod RecordsMade
+pub mod RowsFloats
 pub mod RowsMade
 pub mod RowsPrinted
 pub mod TextsPrinted

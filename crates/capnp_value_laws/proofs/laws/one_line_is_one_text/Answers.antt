@@ -1,4 +1,3 @@
-use Rattle.capnp_value_laws.proofs.FloatLeaves.{float_stands}
 use Rattle.capnp_value_laws.proofs.OneLine.{one_line}
 use Rattle.capnp_value_laws.proofs.laws.one_line_is_one_text.Goals as goal
 
