@@ -4,6 +4,7 @@ pub mod Decimals
 pub mod FloatLeaves
 pub mod Leaves
 pub mod LeavesMade
+pub mod LevelsLeft
 pub mod LinesPrinted
 pub mod MessagesBack
 pub mod NamesFound

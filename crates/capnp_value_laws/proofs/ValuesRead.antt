@@ -18,7 +18,7 @@ use Rattle.capnp_value_laws.proofs.TextsPrinted.{group_said, same_spelt, slot_pa
 use Rattle.capnp_value_laws.proofs.TextsRead.{texts_read}
 
 -- the text with floats is what is printed
-print_is : (set : Schemas) (floats indented : Bool) (t : SchemaType) (v : Value) (o : Out) → IsPrint set floats indented t v o → o ≡ float_text_of set floats indented t v
+pub print_is : (set : Schemas) (floats indented : Bool) (t : SchemaType) (v : Value) (o : Out) → IsPrint set floats indented t v o → o ≡ float_text_of set floats indented t v
 print_is set floats indented t v o (inl is) = is
 print_is set floats indented t v o (inr (none, plain, is)) = is ∙ (sym (unmarked set indented t v none) ∙ ap (λ q. float_text_of set q indented t v) (sym plain))
 
