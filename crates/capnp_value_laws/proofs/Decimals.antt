@@ -1,10 +1,10 @@
 -- Each finite float has a decimal, so each float has a text, which is the one that is printed.
-use Rattle.std.proofs.Common.{ℕ, zero, suc, ◌≡◌, ◌+◌, ◌-◌, ◌*◌, ◌/◌, ◌%◌, ◌^◌, ◌<◌, ◌≤◌, ◌⊎◌, ⊎_elim, inl, inr, Bool, true, false, ◌==◌, ◌&&◌, ◌++◌, nat_lt, List, codes, refl, sym, ap, ◌∙◌, subst, cond, arith, lit<}
+use Rattle.std.proofs.Common.{ℕ, zero, suc, ◌≡◌, ◌+◌, ◌-◌, ◌*◌, ◌/◌, ◌%◌, ◌^◌, ◌<◌, ◌≤◌, ◌⊎◌, ⊎_elim, inl, inr, Bool, true, false, ◌++◌, List, codes, refl, sym, ap, ◌∙◌, subst, cond, arith, lit<}
 use Rattle.std.proofs.Math.Nat.{pow-suc, pow-zero}
 use Rattle.std.proofs.lemmas.Bool.{cases_lt, cases_order, true≢false}
 use Rattle.std.proofs.lemmas.Nat.{mul-le, div-add-mod', mod_below}
 use lib.IntN.{ℤ, pos, negsuc}
-use Rattle.capnp_floats.specs.Floats.{IsDecimalOf, exponent, fraction, gap_below, interval_of, is_finite, place, quarter_places, significand}
+use Rattle.capnp_floats.specs.Floats.{IsDecimalOf, fraction, gap_below, interval_of, is_finite, place, quarter_places, significand}
 use Rattle.capnp_floats.specs.Layout.{IsFloatText, is_negative, layout, sign_text}
 use Rattle.capnp_floats.specs.Shortest.{Interval, IsRounded, IsShortest, Lies, reaches, tens, tenths}
 use Rattle.capnp_floats.specs.Steps.Intervals.{interval}

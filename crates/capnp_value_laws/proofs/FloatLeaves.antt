@@ -1,12 +1,12 @@
 -- What is printed of a float is a leaf.
-use Rattle.std.proofs.Common.{ℕ, zero, suc, ◌≡◌, ◌+◌, ◌-◌, ◌/◌, ◌%◌, ◌^◌, ◌<◌, ◌≤◌, ◌&&◌, ◌⊎◌, ⊎_elim, Bool, true, false, cond, nat_lt, decimal, codes, replicate, take, drop, length, List, [], ◌∷◌, ◌++◌, refl, ap, sym, ◌∙◌, length-append, subst, arith}
+use Rattle.std.proofs.Common.{ℕ, zero, suc, ◌≡◌, ◌+◌, ◌-◌, ◌/◌, ◌%◌, ◌^◌, ◌<◌, ◌≤◌, ⊎_elim, Bool, true, false, cond, nat_lt, decimal, codes, replicate, take, drop, length, List, [], ◌∷◌, ◌++◌, refl, ap, sym, length-append, subst, arith}
 use Rattle.std.specs.Prelude.{◌==◌}
 use Rattle.std.specs.List.{list_all}
 use Rattle.std.proofs.lemmas.Bool.{cases_lt}
 use Rattle.std.proofs.lemmas.Bool.Decides.{nat_tests}
 use Rattle.std.proofs.lemmas.Fmt.{decimal_by_steps, decimal_nonempty, length-decimal-le}
 use lib.IntN.{ℤ}
-use Rattle.capnp_floats.specs.Floats.{IsDecimalOf, fraction, interval_of, is_finite, significand}
+use Rattle.capnp_floats.specs.Floats.{IsDecimalOf, fraction, is_finite, significand}
 use Rattle.capnp_floats.specs.Layout.{IsFloatText, digits_text, is_negative, is_plain, layout, others_text, plain_text, power_text, scientific_text, sign_text, two_digits_text}
 use Rattle.capnp_floats.specs.Shortest.{tens, tenths}
 use Rattle.capnp_floats.specs.declared.width.Width.{Width}

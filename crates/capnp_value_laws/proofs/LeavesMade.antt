@@ -1,5 +1,5 @@
 -- The call of what is printed of a leaf, and what it gives.
-use Rattle.std.proofs.Common.{decimal, pos, negsuc, codes, ◌≡◌, ℕ, ◌^◌, ◌<◌, ◌≤◌, List, ◌==◌, ◌&&◌, Bool, true, false, cond, Ok, refl, ap, sym, ◌∙◌, subst, arith}
+use Rattle.std.proofs.Common.{decimal, pos, negsuc, codes, ◌≡◌, ℕ, ◌≤◌, List, ◌==◌, ◌&&◌, Bool, true, false, cond, Ok, refl, ap, sym, subst, arith}
 use Rattle.std.specs.Prelude.{⊤}
 use Rattle.std.specs.Fmt.{signed_decimal}
 use Rattle.std.proofs.lemmas.Bool.{eq-eqb, true≢false}
@@ -18,9 +18,9 @@ use Rattle.capnp_records.specs.Text.{data_text, enum_text}
 use Rattle.capnp_float_texts.specs.Numbers.{float_bytes}
 use Rattle.capnp_float_texts.specs.Texts.{number_text}
 use Rattle.capnp_words.specs.Laws.{IsWritable, PrintedValuesAreRead}
-use Rattle.capnp_words.specs.Marked.{FloatsAreReadBack, float_at, float_by_word, marked_value_by_word, unsigned_by_word}
+use Rattle.capnp_words.specs.Marked.{FloatsAreReadBack, float_by_word, marked_value_by_word, unsigned_by_word}
 use Rattle.capnp_words.specs.Reads as word
-use Rattle.capnp_words.specs.Values.{greatest_unsigned, uint_at, value_by_word}
+use Rattle.capnp_words.specs.Values.{greatest_unsigned, uint_at}
 use Rattle.capnp_diffs.specs.Changes.{Either}
 use Rattle.capnp_diffs.specs.Laws.{Brings, IsValueGiven}
 use Rattle.capnp_value_texts.specs.Calls.{Target, at_place, one_call, set_call, source_taken, value_calls}

@@ -4,12 +4,12 @@ use Rattle.std.proofs.Common.{ap, sym, subst, ◌∙◌}
 use Rattle.std.proofs.lemmas.Bool.{true≢false}
 use Rattle.capnp_device.specs.declared.error.ErrorKind.{ErrorKind}
 use Rattle.capnp_schema.specs.Schema.{Schemas, TypedField, VoidValue, default_of, field_at, fields_of, is_member, Value as SchemaValue}
-use Rattle.capnp_schema.specs.Types.{SchemaType, StructType, struct_number}
+use Rattle.capnp_schema.specs.Types.{SchemaType, struct_number}
 use Rattle.capnp_records.specs.Default.{read_of}
 use Rattle.capnp_records.specs.Reading.{element_type}
 use Rattle.capnp_records.specs.Record as value
 use Rattle.capnp_records.specs.Record.{Active, MoreValues, Endless, NoValues, NoUnion, Parts, Record, Union, Unknown, Value, Values, is_there}
-use Rattle.capnp_records.specs.Text.{Layout, Member, Out, Pieces, before, deeper, element_texts, item, item_if, later, list_text, member_rest, said_text, stands_before, struct_text}
+use Rattle.capnp_records.specs.Text.{Layout, Member, Out, Pieces, before, deeper, element_texts, item, item_if, later, member_rest, said_text, stands_before}
 use Rattle.capnp_records.proofs.Cut.{AllCut, Cuts, RecordCuts, UnionCuts, cuts_there, read_cut}
 use Rattle.capnp_records.proofs.Printed.{AllRefine, MemberRefines, Refines, after_refines, append_refine, before_same, list_refine, refines_same, rest_refines, struct_refine}
 use Rattle.capnp_json_fields.specs.Marks.{is_float}
@@ -51,6 +51,25 @@ module _ (set : Schemas) (inner : Inner) (refines : InnerRefines inner) (fails :
   read_refines : (floats : Bool) (at : Layout) (d : SchemaValue) (t : SchemaType) (v w : Value) → Cuts v w → Refines (inner floats at t (read_of set d t v)) (inner floats at t (read_of set d t w))
   read_refines floats at d t v w h = refines floats at t (read_of set d t v) (read_of set d t w) (read_cut set d t v w h)
 
+  -- a field, by what is shown of it and of those behind it
+  field_refines : (at : Layout) (f : TypedField) (fs : List TypedField) (i : ℕ) (v w : Value) (vs ws : Values) (m n : Member)
+      → ((x y : Member) → MemberRefines x y → AllRefine (shown set inner at fs (suc i) vs x) (shown set inner at fs (suc i) ws y)) → MemberRefines m n → Cuts v w
+      → Refines (part_text set inner (is_float f) at (default_of f.field) f.type v) (part_text set inner (is_float f) at (default_of f.field) f.type w) → (q : Bool)
+      → AllRefine
+      (elim q as (λ _. List Out) [
+        | true ↦ shown set inner at fs (suc i) vs m
+        | false ↦ before m i ++ item_if (is_there v) (item f (part_text set inner (is_float f) at (default_of f.field) f.type v)) ++ shown set inner at fs (suc i) vs (later m i)
+      ])
+      (elim q as (λ _. List Out) [
+        | true ↦ shown set inner at fs (suc i) ws n
+        | false ↦ before n i ++ item_if (is_there w) (item f (part_text set inner (is_float f) at (default_of f.field) f.type w)) ++ shown set inner at fs (suc i) ws (later n i)
+      ])
+  field_refines at f fs i v w vs ws m n others k cut part true = others m n k
+  field_refines at f fs i v w vs ws m n others k cut part false =
+      append_refine _ _ _ _
+      (append_refine _ _ _ _ (before_refines m n (stands_before m i) (stands_before n i) k (before_same m n i k)) (shown_one (is_there v) (is_there w) (cuts_there v w cut) _ _ (item_refines f _ _ part)))
+      (others (later m i) (later n i) (later_refines m n (stands_before m i) (stands_before n i) k (before_same m n i k)))
+
   mutual
     part_refines : (floats : Bool) (at : Layout) (d : SchemaValue) (t : SchemaType) (v w : Value) → Cuts v w → Refines (part_text set inner floats at d t v) (part_text set inner floats at d t w)
     part_refines floats at d t (value.Group r) (value.Group s) h = record_refines at (struct_number t) r s h
@@ -80,24 +99,6 @@ module _ (set : Schemas) (inner : Inner) (refines : InnerRefines inner) (fails :
     shown_refines at [] i (MoreValues v vs) (MoreValues w ws) m n h k = rest_refines m n k
     shown_refines at (f ∷ fs) i (MoreValues v vs) (MoreValues w ws) m n h k =
         field_refines at f fs i v w vs ws m n (λ x y j. shown_refines at fs (suc i) vs ws x y h.1 j) k h.0 (part_refines (is_float f) at (default_of f.field) f.type v w h.0) (is_member f.field)
-
-    field_refines : (at : Layout) (f : TypedField) (fs : List TypedField) (i : ℕ) (v w : Value) (vs ws : Values) (m n : Member)
-        → ((x y : Member) → MemberRefines x y → AllRefine (shown set inner at fs (suc i) vs x) (shown set inner at fs (suc i) ws y)) → MemberRefines m n → Cuts v w
-        → Refines (part_text set inner (is_float f) at (default_of f.field) f.type v) (part_text set inner (is_float f) at (default_of f.field) f.type w) → (q : Bool)
-        → AllRefine
-        (elim q as (λ _. List Out) [
-          | true ↦ shown set inner at fs (suc i) vs m
-          | false ↦ before m i ++ item_if (is_there v) (item f (part_text set inner (is_float f) at (default_of f.field) f.type v)) ++ shown set inner at fs (suc i) vs (later m i)
-        ])
-        (elim q as (λ _. List Out) [
-          | true ↦ shown set inner at fs (suc i) ws n
-          | false ↦ before n i ++ item_if (is_there w) (item f (part_text set inner (is_float f) at (default_of f.field) f.type w)) ++ shown set inner at fs (suc i) ws (later n i)
-        ])
-    field_refines at f fs i v w vs ws m n others k cut part true = others m n k
-    field_refines at f fs i v w vs ws m n others k cut part false =
-        append_refine _ _ _ _
-        (append_refine _ _ _ _ (before_refines m n (stands_before m i) (stands_before n i) k (before_same m n i k)) (shown_one (is_there v) (is_there w) (cuts_there v w cut) _ _ (item_refines f _ _ part)))
-        (others (later m i) (later n i) (later_refines m n (stands_before m i) (stands_before n i) k (before_same m n i k)))
 
     member_refines : (at : Layout) (b : ℕ) (u v : Union) → UnionCuts u v → MemberRefines (member set inner at b u) (member set inner at b v)
     member_refines at b NoUnion NoUnion h = tt

@@ -18,7 +18,7 @@ use Rattle.capnp_json_fields.specs.Marks.{is_float}
 use Rattle.capnp_words.specs.Laws.{IsWritable, PrintedValuesAreRead}
 use Rattle.capnp_words.specs.Marked.{FloatsAreReadBack}
 use Rattle.capnp_diffs.proofs.Walked.{HasPlace, IsSolid, Nest, field_nest, with_member, with_plain, wrap}
-use Rattle.capnp_value_texts.specs.Calls.{InList, InStruct, Target, field_target, is_given, mark_of, most_parts, one_call, part_count, parts_calls, source_taken, value_calls}
+use Rattle.capnp_value_texts.specs.Calls.{InList, InStruct, field_target, is_given, mark_of, most_parts, one_call, part_count, parts_calls, source_taken, value_calls}
 use Rattle.capnp_value_texts.specs.Errors.{Read}
 use Rattle.capnp_value_texts.specs.Written.{Fields, Items, NoPart, Part, Parts, Written}
 use Rattle.capnp_value_laws.specs.Trees.{MemberPart, both_parts, member_behind, member_left, own_parts, part_if, part_later, parts_before, printed_elements, printed_fields, printed_member, printed_record, printed_value}

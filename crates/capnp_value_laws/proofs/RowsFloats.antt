@@ -1,18 +1,21 @@
 -- Worked rows: what is printed of floats, and which of them are whole.
-use Rattle.std.proofs.Common.{◌≡◌, ℕ, true, false, List, [], ◌∷◌, inl, inr, pos, refl, codes, arith}
+use Rattle.std.proofs.Common.{◌≡◌, ℕ, true, false, List, [], ◌∷◌, ◌++◌, inl, inr, Ok, pos, refl, codes, arith}
 use Rattle.std.specs.Fmt.{digits}
-use Rattle.capnp_schema.specs.Schema.{Annotation, Field, Node, Schemas, Slot, UIntValue, ListValue, VoidValue, no_types}
-use Rattle.capnp_schema.specs.Types.{IntType, ListType, SchemaType, StructType, UIntType}
+use Rattle.capnp_floats.specs.declared.width.Width.TheVariants.{Float32}
+use Rattle.capnp_schema.specs.Schema.{Annotation, Field, Node, Schemas, Slot, UIntValue, VoidValue, no_types}
+use Rattle.capnp_schema.specs.Types.{IntType, ListType, StructType, UIntType}
+use Rattle.capnp_records.specs.Call.{ElementAt, FieldNumber, Initn, Set, UIntSource}
 use Rattle.capnp_records.specs.Record as value
 use Rattle.capnp_records.specs.Record.{NoUnion, Parts, Value}
 use Rattle.capnp_records.specs.Text.{said_text}
 use Rattle.capnp_json_fields.specs.Marks.{float_id}
 use Rattle.capnp_float_texts.specs.Numbers.{float_bytes}
 use Rattle.capnp_float_texts.specs.Texts.{float_text_of}
+use Rattle.capnp_value_texts.specs.Calls.{root_calls}
 use Rattle.capnp_value_texts.specs.Lines.{line_on}
-use Rattle.capnp_value_laws.specs.Laws.{IsPrint}
 use Rattle.capnp_value_laws.specs.Trees.{printed_value}
 use Rattle.capnp_value_laws.specs.Whole.{IsNoNan, IsWhole}
+use Rattle.capnp_value_laws.proofs.RowsMade.{call}
 use Rattle.capnp_value_laws.proofs.RowsPrinted.{row}
 
 abbrev slot : List ℕ → List Annotation → Field
@@ -53,6 +56,16 @@ line = refl
 text : float_text_of set false false (StructType 0 0) (of_numbers 2139095040 2139095040 (number 18442240474082181120 ∷ number 9218868437227405312 ∷ [])) ≡ said_text (codes "(ratio = inf, count = 2139095040, ratios = [-inf, inf])")
 unfolding digits float_bytes
 text = refl
+
+-- a finite float's bytes are its text
+finite_line : line_on (printed_value set true (UIntType 4) (number 1069547520)) [] ≡ float_bytes Float32 1069547520 ++ []
+finite_line = refl
+
+-- what is read of them are the bits
+calls : root_calls set 0 (printed_value set false (StructType 0 0) (of_numbers 2139095040 7 (number 18442240474082181120 ∷ [])))
+    ≡ Ok (call [] (FieldNumber 0) (Set (UIntSource 4 2139095040)) ∷ call [] (FieldNumber 1) (Set (UIntSource 4 7)) ∷ call [] (FieldNumber 2) (Initn 1) ∷ call (FieldNumber 2 ∷ []) (ElementAt 0) (Set (UIntSource 8 18442240474082181120)) ∷ [])
+unfolding digits float_bytes
+calls = refl
 
 infinities_are_whole : IsWhole set false 2 (StructType 0 0) (of_numbers 2139095040 2139095040 (number 18442240474082181120 ∷ []))
 infinities_are_whole = (

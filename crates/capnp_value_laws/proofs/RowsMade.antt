@@ -16,7 +16,7 @@ use Rattle.capnp_value_laws.specs.Laws.{AreDoneToRoom, HasPlace}
 use Rattle.capnp_value_laws.specs.Trees.{printed_value}
 use Rattle.capnp_value_laws.proofs.RowsPrinted.{missing, of_parts, plain, set, with_group, with_lists}
 
-abbrev call : List PathStep → PathStep → Op → Call
+abbrev pub call : List PathStep → PathStep → Op → Call
 call path last op = record { path = path; last = last; op = op }
 
 abbrev calls_of : Record → Read (List Call)

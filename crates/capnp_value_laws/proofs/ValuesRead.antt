@@ -3,7 +3,7 @@ use Rattle.std.proofs.Common.{ℕ, ◌≡◌, inl, inr, List, Bool, Ok, arith, s
 use Rattle.capnp_schema.specs.Schema.{Schemas, VoidValue}
 use Rattle.capnp_schema.specs.Types.{SchemaType}
 use Rattle.capnp_records.specs.Record.{Value}
-use Rattle.capnp_records.specs.Text.{Out, said_text, text_of}
+use Rattle.capnp_records.specs.Text.{Out, said_text}
 use Rattle.capnp_float_texts.specs.Texts.{float_text_of, text_within}
 use Rattle.capnp_float_texts.proofs.Unmarked.{unmarked}
 use Rattle.capnp_value_texts.specs.Lines.{HasLine}

@@ -1,5 +1,5 @@
 -- Values that stand whole in what is printed of them.
-use Rattle.std.specs.Prelude.{ℕ, zero, suc, ◌<◌, ◌≤◌, ◌≡◌, ◌⊎◌, ⊤, pos, List, Bool, true, false, not, ◌&&◌, ◌||◌, ◌==◌, length}
+use Rattle.std.specs.Prelude.{ℕ, zero, suc, ◌<◌, ◌≤◌, ◌≡◌, ◌⊎◌, ⊤, pos, List, Bool, true, not, ◌&&◌, ◌||◌, ◌==◌, length}
 use Rattle.std.specs.List.{list_all}
 use Rattle.capnp_floats.specs.Floats.{fraction, is_finite}
 use Rattle.capnp_floats.specs.declared.width.Width.{Width}
