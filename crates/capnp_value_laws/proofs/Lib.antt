@@ -1,7 +1,10 @@
 pub mod CallsAlike
 pub mod CallsLead
+pub mod Decimals
+pub mod FloatLeaves
 pub mod Leaves
 pub mod LeavesMade
+pub mod LevelsLeft
 pub mod LinesPrinted
 pub mod MessagesBack
 pub mod NamesFound
@@ -12,6 +15,7 @@ pub mod PlacesMade
 pub mod ReadBack
 pub mod ReadersBack
 pub mod RecordsMade
+pub mod RowsFloats
 pub mod RowsMade
 pub mod RowsPrinted
 pub mod TextsPrinted

@@ -5,13 +5,14 @@ use Rattle.capnp_schema.specs.Schema.{FieldKind, Group, Schemas, Slot, field_at,
 use Rattle.capnp_schema.specs.Types.{ListType, SchemaType, StructType}
 use Rattle.capnp_records.specs.Record as value
 use Rattle.capnp_records.specs.Record.{Active, MoreValues, NoUnion, NoValues, Record, Union, Unknown, Value, Values, is_there}
+use Rattle.capnp_json_fields.specs.Marks.{is_float}
 use Rattle.capnp_value_texts.specs.Lengths.{ends_name, is_end, name_length}
 use Rattle.capnp_value_texts.specs.Lines.{HasLine, HaveLines, IsNameText}
 use Rattle.capnp_value_texts.specs.Written.{NoPart, Part, Parts, Written}
 use Rattle.capnp_value_texts.specs.declared.parts.Bracket.TheVariants.{Round, Square}
 use Rattle.capnp_value_laws.specs.Trees.{MemberPart, both_parts, member_behind, member_left, own_parts, part_if, part_later, parts_before, printed_elements, printed_fields, printed_member, printed_record, printed_value}
 use Rattle.capnp_diffs.specs.Changes.{ByKind, Either}
-use Rattle.capnp_value_laws.specs.Whole.{AreWhole, AreWholeFields, IsElsewhere, IsFieldName, IsPlainField, IsNull, IsWhole, IsWholeGroup, IsWholeRecord, IsWholeUnion}
+use Rattle.capnp_value_laws.specs.Whole.{AreWhole, AreWholeFields, IsElsewhere, IsFieldName, IsNull, IsWhole, IsWholeGroup, IsWholeRecord, IsWholeUnion}
 use Rattle.capnp_value_laws.proofs.Leaves.{leaf_has_line}
 
 -- ---- names ----
@@ -87,20 +88,20 @@ kind_has levels w (Group node) P Q slot group h = group h
 
 module _ (set : Schemas) where
   mutual
-    pub value_has : (levels : ℕ) (t : SchemaType) (v : Value) → IsWhole set levels t v → HasLine levels (printed_value set t v)
-    value_has (suc levels) (StructType b g) (value.Struct r) h = record_has levels b r h
-    value_has (suc levels) (ListType e) (value.Elements vs) h = elements_have levels e vs h.1
-    value_has zero t value.Void h = absurd h
-    value_has (suc levels) t value.Void h = tt
-    value_has levels t v h = leaf_has_line set levels t v h tt
+    pub value_has : (floats : Bool) (levels : ℕ) (t : SchemaType) (v : Value) → IsWhole set floats levels t v → HasLine levels (printed_value set floats t v)
+    value_has floats (suc levels) (StructType b g) (value.Struct r) h = record_has levels b r h
+    value_has floats (suc levels) (ListType e) (value.Elements vs) h = elements_have floats levels e vs h.1
+    value_has floats zero t value.Void h = absurd h
+    value_has floats (suc levels) t value.Void h = tt
+    value_has floats levels t v h = leaf_has_line set floats levels t v h tt
 
-    pub group_has : (levels : ℕ) (t : SchemaType) (v : Value) → IsWholeGroup set levels t v → HasLine levels (printed_value set t v)
-    group_has (suc levels) (StructType b g) (value.Group r) h = record_has levels b r h
-    group_has levels t v h = absurd h
+    pub group_has : (floats : Bool) (levels : ℕ) (t : SchemaType) (v : Value) → IsWholeGroup set levels t v → HasLine levels (printed_value set floats t v)
+    group_has floats (suc levels) (StructType b g) (value.Group r) h = record_has levels b r h
+    group_has floats levels t v h = absurd h
 
-    elements_have : (levels : ℕ) (e : SchemaType) (vs : Values) → AreWhole set levels e vs → HaveLines levels Square (printed_elements set e vs)
-    elements_have levels e NoValues h = tt
-    elements_have levels e (MoreValues v vs) h = (tt, value_has levels e v h.0, elements_have levels e vs h.1)
+    elements_have : (floats : Bool) (levels : ℕ) (e : SchemaType) (vs : Values) → AreWhole set floats levels e vs → HaveLines levels Square (printed_elements set floats e vs)
+    elements_have floats levels e NoValues h = tt
+    elements_have floats levels e (MoreValues v vs) h = (tt, value_has floats levels e v h.0, elements_have floats levels e vs h.1)
 
     pub record_has : (levels b : ℕ) (r : Record) → IsWholeRecord set levels b r → HaveLines levels Round (printed_record set b r)
     record_has levels b (value.Parts vs u) h = fields_have levels b 0 vs (printed_member set b u) (union_has levels b u h.1) h.0
@@ -109,15 +110,15 @@ module _ (set : Schemas) where
     fields_have levels b i NoValues m k h = k
     fields_have levels b i (MoreValues v vs) m k h =
         both_have levels
-        (own_parts (is_member (field_at set b i).field) m i (part_if (is_there v) (field_at set b i).field.name (printed_value set (field_at set b i).type v)))
+        (own_parts (is_member (field_at set b i).field) m i (part_if (is_there v) (field_at set b i).field.name (printed_value set (is_float (field_at set b i)) (field_at set b i).type v)))
         (printed_fields set b (suc i) vs (member_behind (is_member (field_at set b i).field) m i))
-        (own_has levels (is_member (field_at set b i).field) (is_there v) m i (field_at set b i).field.name (printed_value set (field_at set b i).type v) (IsElsewhere v)
-        (IsPlainField (field_at set b i) × ByKind (field_at set b i).field.kind (IsWhole set levels (field_at set b i).type v) (IsWholeGroup set levels (field_at set b i).type v)) (IsNull (field_at set b i).field.kind (field_at set b i).type v)
+        (own_has levels (is_member (field_at set b i).field) (is_there v) m i (field_at set b i).field.name (printed_value set (is_float (field_at set b i)) (field_at set b i).type v) (IsElsewhere v)
+        (IsFieldName (field_at set b i).field.name × ByKind (field_at set b i).field.kind (IsWhole set (is_float (field_at set b i)) levels (field_at set b i).type v) (IsWholeGroup set levels (field_at set b i).type v)) (IsNull (field_at set b i).field.kind (field_at set b i).type v)
         k h.1
         (λ own. (
-          own.0.name,
-          kind_has levels (printed_value set (field_at set b i).type v) (field_at set b i).field.kind (IsWhole set levels (field_at set b i).type v) (IsWholeGroup set levels (field_at set b i).type v)
-              (value_has levels (field_at set b i).type v) (group_has levels (field_at set b i).type v) own.1,
+          own.0,
+          kind_has levels (printed_value set (is_float (field_at set b i)) (field_at set b i).type v) (field_at set b i).field.kind (IsWhole set (is_float (field_at set b i)) levels (field_at set b i).type v) (IsWholeGroup set levels (field_at set b i).type v)
+              (value_has (is_float (field_at set b i)) levels (field_at set b i).type v) (group_has (is_float (field_at set b i)) levels (field_at set b i).type v) own.1,
         )))
         (fields_have levels b (suc i) vs (member_behind (is_member (field_at set b i).field) m i) (behind_has levels (is_member (field_at set b i).field) m i k) h.2)
 
@@ -125,9 +126,9 @@ module _ (set : Schemas) where
     union_has levels b NoUnion h = tt
     union_has levels b (Unknown number) h = tt
     union_has levels b (Active i v) h =
-        shown_has levels (is_there v || not ((field_at set b i).field.discriminant_value == 0)) (field_at set b i).field.name (printed_value set (field_at set b i).type v) _ _ h.2
+        shown_has levels (is_there v || not ((field_at set b i).field.discriminant_value == 0)) (field_at set b i).field.name (printed_value set (is_float (field_at set b i)) (field_at set b i).type v) _ _ h.2
         (λ own. (
-          own.0.name,
-          kind_has levels (printed_value set (field_at set b i).type v) (field_at set b i).field.kind (IsWhole set levels (field_at set b i).type v) (IsWholeGroup set levels (field_at set b i).type v)
-              (value_has levels (field_at set b i).type v) (group_has levels (field_at set b i).type v) own.1,
+          own.0,
+          kind_has levels (printed_value set (is_float (field_at set b i)) (field_at set b i).type v) (field_at set b i).field.kind (IsWhole set (is_float (field_at set b i)) levels (field_at set b i).type v) (IsWholeGroup set levels (field_at set b i).type v)
+              (value_has (is_float (field_at set b i)) levels (field_at set b i).type v) (group_has (is_float (field_at set b i)) levels (field_at set b i).type v) own.1,
         ))

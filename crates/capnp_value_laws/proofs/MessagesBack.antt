@@ -15,7 +15,9 @@ use Rattle.capnp_records.specs.Facts.Spelled.{same_said}
 use Rattle.capnp_records.specs.Part.{value_count}
 use Rattle.capnp_records.specs.Reading.{non_union_parts}
 use Rattle.capnp_records.specs.Record.{Endless, Record, Value}
+use Rattle.capnp_records.specs.Text.{said_text}
 use Rattle.capnp_words.specs.Laws.{PrintedValuesAreRead}
+use Rattle.capnp_words.specs.Marked.{FloatsAreReadBack}
 use Rattle.capnp_slots.specs.Fields.{field_set}
 use Rattle.capnp_call.specs.Messages.{new_record}
 use Rattle.capnp_call.specs.Runs.{record_under_schema}
@@ -80,14 +82,14 @@ new_place set b i f inside = go (is_member f)
     go true = tt
     go false = subst (λ n. i < n) (sym (count_parts (part set) (fields_of set b))) inside
 
-module _ (read : PrintedValuesAreRead) where
+module _ (read : PrintedValuesAreRead) (back : FloatsAreReadBack) where
   pub roots_read : PrintedRootsAreRead
-  roots_read schema indented r text stands whole said =
-      let (own, own_said, calls, is, lead) = records_made read (set_of schema) indented (number_of schema) r stands.accepted whole in
-      only_makes schema calls (root_of_text (set_of schema) (number_of schema) text) r (ap (root_of_text (set_of schema) (number_of schema)) (same_said text own (sym said ∙ own_said)) ∙ is) lead
+  roots_read schema indented r text stands whole print =
+      let (own, own_said, calls, is, lead) = records_made read back (set_of schema) indented (number_of schema) r (said_text text) stands.accepted whole print in
+      only_makes schema calls (root_of_text (set_of schema) (number_of schema) text) r (ap (root_of_text (set_of schema) (number_of schema)) (same_said text own own_said) ∙ is) lead
 
   pub fields_read : PrintedFieldsAreRead
-  fields_read f indented v text stands inside plain whole said =
+  fields_read f indented v text stands inside whole print =
       let s = field_schema f in
-      let (own, own_said, calls, is, lead) = fields_are_made read (set_of s) indented (number_of s) (index_of f) (new_record s) v stands.accepted inside (new_place (set_of s) (number_of s) (index_of f) (typed_of f).field inside) plain whole in
-      only_makes s calls (field_of_text (field_set f) (typed_of f) (index_of f) text) _ (ap (field_of_text (field_set f) (typed_of f) (index_of f)) (same_said text own (sym said ∙ own_said)) ∙ is) lead
+      let (own, own_said, calls, is, lead) = fields_are_made read back (set_of s) indented (number_of s) (index_of f) (new_record s) v (said_text text) stands.accepted inside (new_place (set_of s) (number_of s) (index_of f) (typed_of f).field inside) whole print in
+      only_makes s calls (field_of_text (field_set f) (typed_of f) (index_of f) text) _ (ap (field_of_text (field_set f) (typed_of f) (index_of f)) (same_said text own own_said) ∙ is) lead

@@ -9,7 +9,9 @@ use Rattle.capnp_records.specs.Part.{value_count, with_part}
 use Rattle.capnp_records.specs.Record as value
 use Rattle.capnp_records.specs.Record.{Endless, Record}
 use Rattle.capnp_records.specs.Run.{root_type}
+use Rattle.capnp_json_fields.specs.Marks.{is_float}
 use Rattle.capnp_words.specs.Laws.{PrintedValuesAreRead}
+use Rattle.capnp_words.specs.Marked.{FloatsAreReadBack}
 use Rattle.capnp_diffs.proofs.Walked.{HasPlace as HasFieldPlace}
 use Rattle.capnp_value_texts.specs.Calls.{InStruct, field_of_text, field_target, part_count, parts_calls, root_calls, root_of_text, value_calls}
 use Rattle.capnp_value_texts.specs.Errors.{read_then}
@@ -49,12 +51,12 @@ place_of (value.Parts vs u) f i place = go (is_member f) refl place
     go true e h = inl e
     go false e h = inr (e, h)
 
-module _ (read : PrintedValuesAreRead) where
+module _ (read : PrintedValuesAreRead) (back : FloatsAreReadBack) where
   pub records_made : PrintedRecordsAreMade
-  records_made set indented b r accepted whole =
-      let (text, said, w, is, alike) = text_read set indented (root_type set b) (value.Struct r) whole in
+  records_made set indented b r o accepted whole print =
+      let (text, said, w, is, alike) = text_read set false indented (root_type set b) (value.Struct r) o print whole in
       let ps = printed_record set b r in
-      let made = record_made read set (fields_known set accepted) r 63 b (brand_at set b).node true whole in (
+      let made = record_made read back set (fields_known set accepted) r 63 b (brand_at set b).node true whole in (
         text,
         said,
         made.calls,
@@ -65,16 +67,16 @@ module _ (read : PrintedValuesAreRead) where
       )
 
   pub fields_are_made : PrintedFieldsAreMade
-  fields_are_made set indented b i old v accepted inside place plain whole =
+  fields_are_made set indented b i old v o accepted inside place whole print =
       let f = field_at set b i in
-      let has : IsReadAs set indented f.type v = by_kind f.field.kind (λ slot held. text_read set indented f.type v held) (λ group held. group_read set indented f.type v held) whole in
+      let has : IsReadAs set (is_float f) f.type v o = by_kind f.field.kind (λ slot held. text_read set (is_float f) indented f.type v o print held) (λ group held. group_read set (is_float f) indented f.type v o print held) whole in
       let (text, said, w, is, alike) = has in
-      let made = field_made read set (fields_known set accepted) v most_levels b (brand_at set b).node i true old inside (place_of old f.field i place) plain whole in (
+      let made = field_made read back set (fields_known set accepted) v most_levels b (brand_at set b).node i true old inside (place_of old f.field i place) whole in (
         text,
         said,
         made.calls,
         field_is set f i text
             ∙ (ap (λ x. read_then x (λ y. value_calls set y (field_target f i))) is
-            ∙ alike_calls set (printed_value set f.type v) w (field_target f i) made.calls alike made.read),
+            ∙ alike_calls set (printed_value set (is_float f) f.type v) w (field_target f i) made.calls alike made.read),
         lead_run set b made.calls old (with_part old f.field i v) made.leads,
       )

@@ -16,15 +16,16 @@ use Rattle.capnp_records.specs.Step.{is_group_field}
 use Rattle.capnp_records.specs.Text.{stands_before}
 use Rattle.capnp_json_fields.specs.Marks.{is_float}
 use Rattle.capnp_words.specs.Laws.{IsWritable, PrintedValuesAreRead}
+use Rattle.capnp_words.specs.Marked.{FloatsAreReadBack}
 use Rattle.capnp_diffs.proofs.Walked.{HasPlace, IsSolid, Nest, field_nest, with_member, with_plain, wrap}
-use Rattle.capnp_value_texts.specs.Calls.{InList, InStruct, Target, field_target, is_given, mark_of, most_parts, one_call, part_count, parts_calls, source_taken, value_calls}
+use Rattle.capnp_value_texts.specs.Calls.{InList, InStruct, field_target, is_given, mark_of, most_parts, one_call, part_count, parts_calls, source_taken, value_calls}
 use Rattle.capnp_value_texts.specs.Errors.{Read}
 use Rattle.capnp_value_texts.specs.Written.{Fields, Items, NoPart, Part, Parts, Written}
 use Rattle.capnp_value_laws.specs.Trees.{MemberPart, both_parts, member_behind, member_left, own_parts, part_if, part_later, parts_before, printed_elements, printed_fields, printed_member, printed_record, printed_value}
 use Rattle.capnp_diffs.specs.Changes.{ByKind, Either}
-use Rattle.capnp_value_laws.specs.Whole.{AreWhole, AreWholeFields, IsElsewhere, IsWhole, IsWholeGroup, IsWholeRecord, IsWholeUnion}
+use Rattle.capnp_value_laws.specs.Whole.{AreWhole, AreWholeFields, IsElsewhere, IsNoNan, IsWhole, IsWholeGroup, IsWholeRecord, IsWholeUnion}
 use Rattle.capnp_value_laws.proofs.CallsLead.{CallsLead}
-use Rattle.capnp_value_laws.proofs.LeavesMade.{leaf_brings, leaf_calls_are, plain_target}
+use Rattle.capnp_value_laws.proofs.LeavesMade.{leaf_brings, leaf_calls_are, target_at}
 use Rattle.capnp_value_laws.proofs.NamesFound.{KnowsFields, same_number}
 use Rattle.capnp_value_laws.proofs.NewRecords.{AreNew, fields_new, first_new, no_union_new, null_new, part, union}
 use Rattle.capnp_value_laws.proofs.PartsMade.{IsFresh, IsMade, both_count, both_nothing, both_thrice, fresh_after, fresh_more, fresh_union, given_more, made_both, made_field, made_from, made_held}
@@ -102,15 +103,15 @@ module _ (set : Schemas) where
   fields_count NoValues b i m = omega arith
   fields_count (MoreValues v vs) b i m =
       let q = is_member (field_at set b i).field in
-      let own = part_if (is_there v) (field_at set b i).field.name (printed_value set (field_at set b i).type v) in
+      let own = part_if (is_there v) (field_at set b i).field.name (printed_value set (is_float (field_at set b i)) (field_at set b i).type v) in
       let all = both_count (own_parts q m i own) (printed_fields set b (suc i) vs (member_behind q m i)) in
-      let here = own_count q m i own (shown_count (is_there v) (field_at set b i).field.name (printed_value set (field_at set b i).type v)) in
+      let here = own_count q m i own (shown_count (is_there v) (field_at set b i).field.name (printed_value set (is_float (field_at set b i)) (field_at set b i).type v)) in
       let rest = fields_count vs b (suc i) (member_behind q m i) in
       omega (arith, all, here, rest)
 
-  elements_count : (e : SchemaType) (vs : Values) → part_count (printed_elements set e vs) ≡ value_count vs
-  elements_count e NoValues = refl
-  elements_count e (MoreValues v vs) = ap suc (elements_count e vs)
+  elements_count : (floats : Bool) (e : SchemaType) (vs : Values) → part_count (printed_elements set floats e vs) ≡ value_count vs
+  elements_count floats e NoValues = refl
+  elements_count floats e (MoreValues v vs) = ap suc (elements_count floats e vs)
 
   whole_count : (vs : Values) (levels b i : ℕ) → AreWholeFields set levels b i vs → i + value_count vs ≡ length (fields_of set b)
   whole_count NoValues levels b i whole = omega (arith, whole)
@@ -120,7 +121,7 @@ module _ (set : Schemas) where
   union_count NoUnion b = omega arith
   union_count (Unknown n) b = omega arith
   union_count (Active i v) b =
-      shown_count (is_there v || not ((field_at set b i).field.discriminant_value == 0)) (field_at set b i).field.name (printed_value set (field_at set b i).type v)
+      shown_count (is_there v || not ((field_at set b i).field.discriminant_value == 0)) (field_at set b i).field.name (printed_value set (is_float (field_at set b i)) (field_at set b i).type v)
 
   pub record_count : (r : Record) (levels b : ℕ) → IsWholeRecord set levels b r → length (fields_of set b) ≤ 65535 → part_count (printed_record set b r) ≤ most_parts
   record_count (value.Parts vs u) levels b whole few =
@@ -137,11 +138,11 @@ IsBare (value.Struct r) (StructType b g) (suc levels) = ⊥
 IsBare (value.Elements vs) (ListType e) (suc levels) = ⊥
 IsBare v t levels = ⊤
 
-bare_whole : (set : Schemas) (levels : ℕ) (t : SchemaType) (v : Value) → IsBare v t levels → IsWhole set levels t v → IsWritable set t v
-bare_whole set (suc levels) (StructType b g) (value.Struct r) bare whole = absurd bare
-bare_whole set (suc levels) (ListType e) (value.Elements vs) bare whole = absurd bare
-bare_whole set zero t value.Void bare whole = absurd whole
-bare_whole set levels t v bare whole = whole.0
+bare_whole : (set : Schemas) (floats : Bool) (levels : ℕ) (t : SchemaType) (v : Value) → IsBare v t levels → IsWhole set floats levels t v → IsWritable set t v × IsNoNan floats t v
+bare_whole set floats (suc levels) (StructType b g) (value.Struct r) bare whole = absurd bare
+bare_whole set floats (suc levels) (ListType e) (value.Elements vs) bare whole = absurd bare
+bare_whole set floats zero t value.Void bare whole = absurd whole
+bare_whole set floats levels t v bare whole = (whole.0, whole.2)
 
 -- what is no group
 abbrev IsNoGroup : Value → SchemaType → (levels : ℕ) → Type 0
@@ -164,12 +165,12 @@ writable_leaf set (StructType b g) v w = absurd w
 writable_leaf set (ListType e) v w = absurd w
 writable_leaf set AnyPointerType v w = absurd w
 
-made_leaf : PrintedValuesAreRead → (set : Schemas) (v : Value) (t s : SchemaType) (step : PathStep) (stands : Bool) (here : Value) (put : Value → Value) → IsWritable set t v → CanMake set s step t stands here put →
-    IsMade set s here (value_calls set (printed_value set t v) (plain_target step t stands)) (put v)
-made_leaf read set v t s step stands here put w can = record {
+made_leaf : PrintedValuesAreRead → FloatsAreReadBack → (set : Schemas) (v : Value) (t s : SchemaType) (step : PathStep) (floats stands : Bool) (here : Value) (put : Value → Value) → IsWritable set t v × IsNoNan floats t v
+    → CanMake set s step t stands here put → IsMade set s here (value_calls set (printed_value set floats t v) (target_at step floats t stands)) (put v)
+made_leaf read back set v t s step floats stands here put w can = record {
   calls = one_call step (Set (source_taken t v));
-  read = leaf_calls_are read set step stands t v w;
-  leads = can.sets (writable_leaf set t v w) (source_taken t v) v (leaf_brings set t v w);
+  read = leaf_calls_are read back set step floats stands t v w.0 w.1;
+  leads = can.sets (writable_leaf set t v w.0) (source_taken t v) v (leaf_brings set t v w.0);
 }
 
 -- ---- a member that is still to come ----
@@ -255,7 +256,7 @@ module _ (set : Schemas) (b g : ℕ) (k : Bool) where
     at = field_at set b (value_count ds)
 
     abbrev own : Parts
-    own = part_if (is_there v) at.field.name (printed_value set at.type v)
+    own = part_if (is_there v) at.field.name (printed_value set (is_float at) at.type v)
 
     -- a member's place
     elsewhere_made : (u w : Union) (m : MemberPart) (index : ℕ) (given : List ℕ) → is_member at.field ≡ true → e ≡ v →
@@ -283,15 +284,15 @@ module _ (set : Schemas) (b g : ℕ) (k : Bool) where
     Rest m x w n marks = IsMade set s (wrap k (value.Parts (joined ds (MoreValues v es)) x)) (calls_of (printed_fields set b (suc (value_count ds)) vs m) n marks) (wrap k (value.Parts (joined ds (MoreValues v vs)) w))
 
     shown_made : (x w : Union) (m : MemberPart) (n : ℕ) (marks : List ℕ) → is_there v ≡ true → is_member at.field ≡ false → field_named (records_of set b) at.field.name ≡ Some (value_count ds) → is_given (value_count ds) marks ≡ false →
-        IsMade set s (wrap k (value.Parts (joined ds (MoreValues e es)) x)) (value_calls set (printed_value set at.type v) (field_target at (value_count ds))) (wrap k (with_part (value.Parts (joined ds (MoreValues e es)) x) at.field (value_count ds) v)) →
+        IsMade set s (wrap k (value.Parts (joined ds (MoreValues e es)) x)) (value_calls set (printed_value set (is_float at) at.type v) (field_target at (value_count ds))) (wrap k (with_part (value.Parts (joined ds (MoreValues e es)) x) at.field (value_count ds) v)) →
         Rest m x w (suc n) (marks ++ value_count ds ∷ []) →
         IsMade set s (wrap k (value.Parts (joined ds (MoreValues e es)) x)) (calls_of (both_parts own (printed_fields set b (suc (value_count ds)) vs m)) n marks) (wrap k (value.Parts (joined ds (MoreValues v vs)) w))
     shown_made x w m n marks there plain found fresh made rest =
-        made_from set s _ _ _ _ (calls_of (Part 0 at.field.name (printed_value set at.type v) (printed_fields set b (suc (value_count ds)) vs m)) n marks) (calls_of (both_parts own (printed_fields set b (suc (value_count ds)) vs m)) n marks) refl refl
-        (ap (λ q. calls_of (both_parts (part_if q at.field.name (printed_value set at.type v)) (printed_fields set b (suc (value_count ds)) vs m)) n marks) there)
-        (made_field set b at.field.name (value_count ds) found s _ (wrap k (value.Parts (joined ds (MoreValues v es)) x)) _ n 0 marks (printed_value set at.type v) (printed_fields set b (suc (value_count ds)) vs m)
+        made_from set s _ _ _ _ (calls_of (Part 0 at.field.name (printed_value set (is_float at) at.type v) (printed_fields set b (suc (value_count ds)) vs m)) n marks) (calls_of (both_parts own (printed_fields set b (suc (value_count ds)) vs m)) n marks) refl refl
+        (ap (λ q. calls_of (both_parts (part_if q at.field.name (printed_value set (is_float at) at.type v)) (printed_fields set b (suc (value_count ds)) vs m)) n marks) there)
+        (made_field set b at.field.name (value_count ds) found s _ (wrap k (value.Parts (joined ds (MoreValues v es)) x)) _ n 0 marks (printed_value set (is_float at) at.type v) (printed_fields set b (suc (value_count ds)) vs m)
         (ap (λ q. is_given q marks) mark ∙ fresh)
-        (made_from set s _ _ _ _ (value_calls set (printed_value set at.type v) (field_target at (value_count ds))) (value_calls set (printed_value set at.type v) (field_target at (value_count ds))) refl
+        (made_from set s _ _ _ _ (value_calls set (printed_value set (is_float at) at.type v) (field_target at (value_count ds))) (value_calls set (printed_value set (is_float at) at.type v) (field_target at (value_count ds))) refl
         (ap (wrap k) (with_plain at.field (value_count ds) (joined ds (MoreValues e es)) x v plain ∙ ap (λ xs. value.Parts xs x) (put_joined ds e v es))) refl made)
         (made_from set s _ _ _ _ (calls_of (printed_fields set b (suc (value_count ds)) vs m) (suc n) (marks ++ value_count ds ∷ [])) (calls_of (printed_fields set b (suc (value_count ds)) vs m) (suc n) (marks ++ mark_of at (value_count ds) ∷ [])) refl refl
         (ap (λ q. calls_of (printed_fields set b (suc (value_count ds)) vs m) (suc n) (marks ++ q ∷ [])) mark) rest))
@@ -304,27 +305,16 @@ module _ (set : Schemas) (b g : ℕ) (k : Bool) where
     null_made x w m n marks none same rest =
         made_from set s _ _ _ _ (calls_of (printed_fields set b (suc (value_count ds)) vs m) n marks) (calls_of (both_parts own (printed_fields set b (suc (value_count ds)) vs m)) n marks)
         (ap (λ y. wrap k (value.Parts (joined ds (MoreValues y es)) x)) (sym same)) refl
-        (ap (λ q. calls_of (both_parts (part_if q at.field.name (printed_value set at.type v)) (printed_fields set b (suc (value_count ds)) vs m)) n marks) none) rest
+        (ap (λ q. calls_of (both_parts (part_if q at.field.name (printed_value set (is_float at) at.type v)) (printed_fields set b (suc (value_count ds)) vs m)) n marks) none) rest
 
 -- ---- all ----
 
-is_float_plain : (f : TypedField) (i : ℕ) → is_float f ≡ false → field_target f i ≡ plain_target (FieldNumber i) f.type false
-is_float_plain f i e = ap (λ q. let x : Target = record { step = FieldNumber i; type = f.type; floats = q; stands = false } in x) e
-
--- a part of a record, by what its place makes of it
-part_made : (set : Schemas) (b g : ℕ) (k : Bool) (i : ℕ) (r : Record) (v : Value) → is_float (field_at set b i) ≡ false →
-    IsMade set (StructType b g) (wrap k r) (value_calls set (printed_value set (field_at set b i).type v) (plain_target (FieldNumber i) (field_at set b i).type false)) (wrap k (with_part r (field_at set b i).field i v)) →
-    IsMade set (StructType b g) (wrap k r) (value_calls set (printed_value set (field_at set b i).type v) (field_target (field_at set b i) i)) (wrap k (with_part r (field_at set b i).field i v))
-part_made set b g k i r v floats made =
-    made_from set (StructType b g) _ _ _ _ _ (value_calls set (printed_value set (field_at set b i).type v) (field_target (field_at set b i) i)) refl refl
-    (ap (value_calls set (printed_value set (field_at set b i).type v)) (is_float_plain (field_at set b i) i floats)) made
-
 -- a struct or group is begun, and its fields are made
-held_made : (set : Schemas) (s : SchemaType) (c h : ℕ) (k : Bool) (q : Record) (levels : ℕ) (step : PathStep) (stands : Bool) (here : Value) (put : Value → Value) → IsWholeRecord set levels c q → length (fields_of set c) ≤ 65535 →
+held_made : (set : Schemas) (s : SchemaType) (c h : ℕ) (k : Bool) (q : Record) (levels : ℕ) (step : PathStep) (floats stands : Bool) (here : Value) (put : Value → Value) → IsWholeRecord set levels c q → length (fields_of set c) ≤ 65535 →
     CallsLead set s here (cond stands [] (one_call step Init)) (put (wrap k (default_record set Endless c))) → Nest set s (StructType c h) step put →
     IsMade set (StructType c h) (wrap k (default_record set Endless c)) (parts_calls set (printed_record set c q) (InStruct c) 0 []) (wrap k q) →
-    IsMade set s here (value_calls set (Fields 0 (printed_record set c q)) (plain_target step (StructType c h) stands)) (put (wrap k q))
-held_made set s c h k q levels step stands here put whole few begun nest made =
+    IsMade set s here (value_calls set (Fields 0 (printed_record set c q)) (target_at step floats (StructType c h) stands)) (put (wrap k q))
+held_made set s c h k q levels step floats stands here put whole few begun nest made =
     made_held set s (StructType c h) step put here (wrap k (default_record set Endless c)) (wrap k q) 0 (part_count (printed_record set c q)) (cond stands [] (one_call step Init))
     (parts_calls set (printed_record set c q) (InStruct c) 0 []) (record_count set q levels c whole few) begun nest (wrap_solid k (default_record set Endless c)) made
   where
@@ -333,51 +323,51 @@ held_made set s c h k q levels step stands here put whole few begun nest made =
     wrap_solid false r = tt
 
 -- a list is begun, and its elements are made
-list_made : (set : Schemas) (s e : SchemaType) (vs : Values) (step : PathStep) (stands : Bool) (here : Value) (put : Value → Value) → value_count vs ≤ most_parts → CanMake set s step (ListType e) stands here put →
-    IsMade set (ListType e) (value.Elements (values_from (λ _. new_element set e) 0 (value_count vs))) (parts_calls set (printed_elements set e vs) (InList e false) 0 []) (value.Elements vs) →
-    IsMade set s here (value_calls set (Items 0 (printed_elements set e vs)) (plain_target step (ListType e) stands)) (put (value.Elements vs))
-list_made set s e vs step stands here put few can made =
-    let count = elements_count set e vs in
-    made_held set s (ListType e) step put here (value.Elements (values_from (λ _. new_element set e) 0 (value_count vs))) (value.Elements vs) 0 (part_count (printed_elements set e vs))
-    (one_call step (Initn (part_count (printed_elements set e vs)))) (parts_calls set (printed_elements set e vs) (InList e false) 0 []) (subst (λ n. n ≤ most_parts) (sym count) few)
+list_made : (set : Schemas) (s e : SchemaType) (vs : Values) (step : PathStep) (floats stands : Bool) (here : Value) (put : Value → Value) → value_count vs ≤ most_parts → CanMake set s step (ListType e) stands here put →
+    IsMade set (ListType e) (value.Elements (values_from (λ _. new_element set e) 0 (value_count vs))) (parts_calls set (printed_elements set floats e vs) (InList e floats) 0 []) (value.Elements vs) →
+    IsMade set s here (value_calls set (Items 0 (printed_elements set floats e vs)) (target_at step floats (ListType e) stands)) (put (value.Elements vs))
+list_made set s e vs step floats stands here put few can made =
+    let count = elements_count set floats e vs in
+    made_held set s (ListType e) step put here (value.Elements (values_from (λ _. new_element set e) 0 (value_count vs))) (value.Elements vs) 0 (part_count (printed_elements set floats e vs))
+    (one_call step (Initn (part_count (printed_elements set floats e vs)))) (parts_calls set (printed_elements set floats e vs) (InList e floats) 0 []) (subst (λ n. n ≤ most_parts) (sym count) few)
     (subst (λ n. CallsLead set s here (one_call step (Initn n)) (put (value.Elements (values_from (λ _. new_element set e) 0 (value_count vs))))) (sym count) (can.lists e (value_count vs) refl))
     (can.nest tt) tt made
 
-module _ (read : PrintedValuesAreRead) (set : Schemas) (known : KnowsFields set) where
+module _ (read : PrintedValuesAreRead) (back : FloatsAreReadBack) (set : Schemas) (known : KnowsFields set) where
   mutual
     -- a value of a type, where a place takes it
-    pub value_made : (v : Value) (t : SchemaType) (levels : ℕ) (s : SchemaType) (step : PathStep) (stands : Bool) (here : Value) (put : Value → Value) → IsWhole set levels t v → CanMake set s step t stands here put →
-        IsMade set s here (value_calls set (printed_value set t v) (plain_target step t stands)) (put v)
-    value_made (value.Struct r) (StructType b g) (suc levels) s step stands here put whole can =
-        held_made set s b g true r levels step stands here put whole (known.few b) (can.begins b g refl) (can.nest tt) (record_made r levels b g true whole)
-    value_made (value.Elements vs) (ListType e) (suc levels) s step stands here put whole can =
-        list_made set s e vs step stands here put whole.0 can (elements_made vs NoValues levels e 0 [] whole.1)
-    value_made v t levels s step stands here put whole can = made_leaf read set v t s step stands here put (bare_whole set levels t v tt whole) can
+    pub value_made : (v : Value) (t : SchemaType) (levels : ℕ) (s : SchemaType) (step : PathStep) (floats stands : Bool) (here : Value) (put : Value → Value) → IsWhole set floats levels t v → CanMake set s step t stands here put →
+        IsMade set s here (value_calls set (printed_value set floats t v) (target_at step floats t stands)) (put v)
+    value_made (value.Struct r) (StructType b g) (suc levels) s step floats stands here put whole can =
+        held_made set s b g true r levels step floats stands here put whole (known.few b) (can.begins b g refl) (can.nest tt) (record_made r levels b g true whole)
+    value_made (value.Elements vs) (ListType e) (suc levels) s step floats stands here put whole can =
+        list_made set s e vs step floats stands here put whole.0 can (elements_made vs NoValues floats levels e 0 [] whole.1)
+    value_made v t levels s step floats stands here put whole can = made_leaf read back set v t s step floats stands here put (bare_whole set floats levels t v tt whole) can
 
     -- a group, at its place in a record
-    pub group_made : (v : Value) (t : SchemaType) (levels b g i : ℕ) (k : Bool) (r : Record) → (field_at set b i).type ≡ t → i < length (fields_of set b) → HasPlace r (field_at set b i).field i → is_group_field (field_at set b i).field.kind ≡ true →
-        IsWholeGroup set levels t v → IsMade set (StructType b g) (wrap k r) (value_calls set (printed_value set t v) (plain_target (FieldNumber i) t false)) (wrap k (with_part r (field_at set b i).field i v))
-    group_made (value.Group q) (StructType c h) (suc levels) b g i k r is inside place group whole =
-        held_made set (StructType b g) c h false q levels (FieldNumber i) false (wrap k r) (λ x. wrap k (with_part r (field_at set b i).field i x)) whole (known.few c)
+    pub group_made : (v : Value) (t : SchemaType) (floats : Bool) (levels b g i : ℕ) (k : Bool) (r : Record) → (field_at set b i).type ≡ t → i < length (fields_of set b) → HasPlace r (field_at set b i).field i → is_group_field (field_at set b i).field.kind ≡ true →
+        IsWholeGroup set levels t v → IsMade set (StructType b g) (wrap k r) (value_calls set (printed_value set floats t v) (target_at (FieldNumber i) floats t false)) (wrap k (with_part r (field_at set b i).field i v))
+    group_made (value.Group q) (StructType c h) floats (suc levels) b g i k r is inside place group whole =
+        held_made set (StructType b g) c h false q levels (FieldNumber i) floats false (wrap k r) (λ x. wrap k (with_part r (field_at set b i).field i x)) whole (known.few c)
         (group_begins set b g i k r inside c h is group) (field_nest set b g i k r (StructType c h) is inside place tt) (record_made q levels c h false whole)
-    group_made v t levels b g i k r is inside place group whole = absurd (no_group set levels t v tt whole)
+    group_made v t floats levels b g i k r is inside place group whole = absurd (no_group set levels t v tt whole)
 
-    elements_made : (vs ds : Values) (levels : ℕ) (e : SchemaType) (first : ℕ) (given : List ℕ) → AreWhole set levels e vs →
-        IsMade set (ListType e) (value.Elements (joined ds (values_from (λ _. new_element set e) first (value_count vs)))) (parts_calls set (printed_elements set e vs) (InList e false) (value_count ds) given) (value.Elements (joined ds vs))
-    elements_made NoValues ds levels e first given whole = record { calls = []; read = refl; leads = refl }
-    elements_made (MoreValues v vs) ds levels e first given whole =
+    elements_made : (vs ds : Values) (floats : Bool) (levels : ℕ) (e : SchemaType) (first : ℕ) (given : List ℕ) → AreWhole set floats levels e vs →
+        IsMade set (ListType e) (value.Elements (joined ds (values_from (λ _. new_element set e) first (value_count vs)))) (parts_calls set (printed_elements set floats e vs) (InList e floats) (value_count ds) given) (value.Elements (joined ds vs))
+    elements_made NoValues ds floats levels e first given whole = record { calls = []; read = refl; leads = refl }
+    elements_made (MoreValues v vs) ds floats levels e first given whole =
         let new = new_element set e in
         let es = values_from (λ _. new_element set e) (suc first) (value_count vs) in
         let here : Values = joined ds (MoreValues new es) in
         made_both set (ListType e) (value.Elements here) (value.Elements (joined (with_last ds v) es)) (value.Elements (joined ds (MoreValues v vs)))
-        (value_calls set (printed_value set e v) (plain_target (ElementAt (value_count ds)) e true)) (parts_calls set (printed_elements set e vs) (InList e false) (suc (value_count ds)) given)
-        (made_from set (ListType e) _ _ _ _ (value_calls set (printed_value set e v) (plain_target (ElementAt (value_count ds)) e true)) (value_calls set (printed_value set e v) (plain_target (ElementAt (value_count ds)) e true)) refl
+        (value_calls set (printed_value set floats e v) (target_at (ElementAt (value_count ds)) floats e true)) (parts_calls set (printed_elements set floats e vs) (InList e floats) (suc (value_count ds)) given)
+        (made_from set (ListType e) _ _ _ _ (value_calls set (printed_value set floats e v) (target_at (ElementAt (value_count ds)) floats e true)) (value_calls set (printed_value set floats e v) (target_at (ElementAt (value_count ds)) floats e true)) refl
         (ap value.Elements (put_joined ds new v es ∙ sym (joined_last ds v es))) refl
-        (value_made v e levels (ListType e) (ElementAt (value_count ds)) true (value.Elements here) (λ x. value.Elements (with_value here (value_count ds) x)) whole.0
+        (value_made v e levels (ListType e) (ElementAt (value_count ds)) floats true (value.Elements here) (λ x. value.Elements (with_value here (value_count ds) x)) whole.0
         (element_can set e (value_count ds) here (inside_joined ds new es) (λ c h is. ap value.Elements (ap (λ x. joined ds (MoreValues x es)) (ap (new_element set) is) ∙ sym (put_joined ds new (value.Struct (default_record set Endless c)) es))))))
-        (made_from set (ListType e) _ _ _ _ (parts_calls set (printed_elements set e vs) (InList e false) (value_count (with_last ds v)) given) (parts_calls set (printed_elements set e vs) (InList e false) (suc (value_count ds)) given) refl
-        (ap value.Elements (joined_last ds v vs)) (ap (λ n. parts_calls set (printed_elements set e vs) (InList e false) n given) (sym (count_last ds v)))
-        (elements_made vs (with_last ds v) levels e (suc first) given whole.1))
+        (made_from set (ListType e) _ _ _ _ (parts_calls set (printed_elements set floats e vs) (InList e floats) (value_count (with_last ds v)) given) (parts_calls set (printed_elements set floats e vs) (InList e floats) (suc (value_count ds)) given) refl
+        (ap value.Elements (joined_last ds v vs)) (ap (λ n. parts_calls set (printed_elements set floats e vs) (InList e floats) n given) (sym (count_last ds v)))
+        (elements_made vs (with_last ds v) floats levels e (suc first) given whole.1))
 
     fields_made : (vs es ds : Values) (u w : Union) (m : MemberPart) (levels b g : ℕ) (k : Bool) (index : ℕ) (given : List ℕ) → AreWholeFields set levels b (value_count ds) vs → AreNew set b (value_count ds) es →
         IsPending set b g k m u w given → IsFresh (value_count ds) given →
@@ -398,11 +388,11 @@ module _ (read : PrintedValuesAreRead) (set : Schemas) (known : KnowsFields set)
         (λ plain is. plain_made set b g k ds v e es vs u w m index given plain pending fresh (λ x n marks free comes.
         by_test (is_there v)
         (λ there has. shown_made set b g k ds v e es vs x w (part_later m i) n marks there plain (known.found b i inside) (free i (omega arith) (omega (arith, few_here, inside)))
-        (part_made set b g k i (value.Parts (joined ds (MoreValues e es)) x) v has.0.floats (by_kind (field_at set b i).field.kind
-        (λ slot held. value_made v (field_at set b i).type levels (StructType b g) (FieldNumber i) false (wrap k (value.Parts (joined ds (MoreValues e es)) x)) (λ y. wrap k (with_part (value.Parts (joined ds (MoreValues e es)) x) (field_at set b i).field i y)) held
+        (by_kind (field_at set b i).field.kind
+        (λ slot held. value_made v (field_at set b i).type levels (StructType b g) (FieldNumber i) (is_float (field_at set b i)) false (wrap k (value.Parts (joined ds (MoreValues e es)) x)) (λ y. wrap k (with_part (value.Parts (joined ds (MoreValues e es)) x) (field_at set b i).field i y)) held
         (field_can set b g i k (value.Parts (joined ds (MoreValues e es)) x) inside slot (inr (plain, inside_joined ds e es))))
-        (λ group held. group_made v (field_at set b i).type levels b g i k (value.Parts (joined ds (MoreValues e es)) x) refl inside (inr (plain, inside_joined ds e es)) group held)
-        has.1))
+        (λ group held. group_made v (field_at set b i).type (is_float (field_at set b i)) levels b g i k (value.Parts (joined ds (MoreValues e es)) x) refl inside (inr (plain, inside_joined ds e es)) group held)
+        has.1)
         (next_made set b g k ds v e es vs x w (part_later m i) (suc n) (marks ++ i ∷ []) (next x (part_later m i) (suc n) (marks ++ i ∷ []) (pending_more set b g k (part_later m i) x w marks i (omega (arith, few_here, inside)) comes) (fresh_more i marks free))))
         (λ none null. null_made set b g k ds v e es vs x w (part_later m i) n marks none (null_new (field_at set b i).field.kind (field_at set b i).type v e null (new.2 plain))
         (next_made set b g k ds v e es vs x w (part_later m i) n marks (next x (part_later m i) n marks comes (fresh_after i marks free))))
@@ -415,20 +405,20 @@ module _ (read : PrintedValuesAreRead) (set : Schemas) (known : KnowsFields set)
     union_made (Active i v) levels b g k whole =
         let f = field_at set b i in
         by_test (is_there v || not (f.field.discriminant_value == 0))
-        (λ shown has. subst (λ q. IsPendingPart set b g k (part_if q f.field.name (printed_value set f.type v)) i (union set b) (Active i v) []) (sym shown) (
+        (λ shown has. subst (λ q. IsPendingPart set b g k (part_if q f.field.name (printed_value set (is_float f) f.type v)) i (union set b) (Active i v) []) (sym shown) (
           refl,
           known.found b i whole.0,
           whole.1,
           refl,
           λ xs x.
-              made_from set (StructType b g) _ _ _ _ (value_calls set (printed_value set f.type v) (field_target f i)) (value_calls set (printed_value set f.type v) (field_target f i)) refl
+              made_from set (StructType b g) _ _ _ _ (value_calls set (printed_value set (is_float f) f.type v) (field_target f i)) (value_calls set (printed_value set (is_float f) f.type v) (field_target f i)) refl
               (ap (wrap k) (with_member f.field i xs x v whole.1)) refl
-              (part_made set b g k i (value.Parts xs x) v has.0.floats (by_kind f.field.kind
-              (λ slot held. value_made v f.type levels (StructType b g) (FieldNumber i) false (wrap k (value.Parts xs x)) (λ y. wrap k (with_part (value.Parts xs x) f.field i y)) held (field_can set b g i k (value.Parts xs x) whole.0 slot (inl whole.1)))
-              (λ group held. group_made v f.type levels b g i k (value.Parts xs x) refl whole.0 (inl whole.1) group held)
-              has.1)),
+              (by_kind f.field.kind
+              (λ slot held. value_made v f.type levels (StructType b g) (FieldNumber i) (is_float f) false (wrap k (value.Parts xs x)) (λ y. wrap k (with_part (value.Parts xs x) f.field i y)) held (field_can set b g i k (value.Parts xs x) whole.0 slot (inl whole.1)))
+              (λ group held. group_made v f.type (is_float f) levels b g i k (value.Parts xs x) refl whole.0 (inl whole.1) group held)
+              has.1),
         ))
-        (λ unshown has. subst (λ q. IsPendingPart set b g k (part_if q f.field.name (printed_value set f.type v)) i (union set b) (Active i v) []) (sym unshown) (first_new set b i v whole.0 has (known.counted b i whole.0 whole.1) (known.first b i whole.0 whole.1 (none_shown (is_there v) f.field.discriminant_value unshown))))
+        (λ unshown has. subst (λ q. IsPendingPart set b g k (part_if q f.field.name (printed_value set (is_float f) f.type v)) i (union set b) (Active i v) []) (sym unshown) (first_new set b i v whole.0 has (known.counted b i whole.0 whole.1) (known.first b i whole.0 whole.1 (none_shown (is_there v) f.field.discriminant_value unshown))))
         whole.2
 
     pub record_made : (q : Record) (levels b g : ℕ) (k : Bool) → IsWholeRecord set levels b q →
@@ -437,11 +427,11 @@ module _ (read : PrintedValuesAreRead) (set : Schemas) (known : KnowsFields set)
         fields_made vs (non_union_parts (part set) (fields_of set b)) NoValues (union set b) w (printed_member set b w) levels b g k 0 [] whole.0 (fields_new set b) (union_made w levels b g k whole.1) (λ mark h small. refl)
 
   -- a value of a field, in any record with a place for it
-  pub field_made : (v : Value) (levels b g i : ℕ) (k : Bool) (r : Record) → i < length (fields_of set b) → HasPlace r (field_at set b i).field i → is_float (field_at set b i) ≡ false →
-      ByKind (field_at set b i).field.kind (IsWhole set levels (field_at set b i).type v) (IsWholeGroup set levels (field_at set b i).type v) →
-      IsMade set (StructType b g) (wrap k r) (value_calls set (printed_value set (field_at set b i).type v) (field_target (field_at set b i) i)) (wrap k (with_part r (field_at set b i).field i v))
-  field_made v levels b g i k r inside place floats whole =
-      part_made set b g k i r v floats (by_kind (field_at set b i).field.kind
-      (λ slot held. value_made v (field_at set b i).type levels (StructType b g) (FieldNumber i) false (wrap k r) (λ y. wrap k (with_part r (field_at set b i).field i y)) held (field_can set b g i k r inside slot place))
-      (λ group held. group_made v (field_at set b i).type levels b g i k r refl inside place group held)
-      whole)
+  pub field_made : (v : Value) (levels b g i : ℕ) (k : Bool) (r : Record) → i < length (fields_of set b) → HasPlace r (field_at set b i).field i →
+      ByKind (field_at set b i).field.kind (IsWhole set (is_float (field_at set b i)) levels (field_at set b i).type v) (IsWholeGroup set levels (field_at set b i).type v) →
+      IsMade set (StructType b g) (wrap k r) (value_calls set (printed_value set (is_float (field_at set b i)) (field_at set b i).type v) (field_target (field_at set b i) i)) (wrap k (with_part r (field_at set b i).field i v))
+  field_made v levels b g i k r inside place whole =
+      by_kind (field_at set b i).field.kind
+      (λ slot held. value_made v (field_at set b i).type levels (StructType b g) (FieldNumber i) (is_float (field_at set b i)) false (wrap k r) (λ y. wrap k (with_part r (field_at set b i).field i y)) held (field_can set b g i k r inside slot place))
+      (λ group held. group_made v (field_at set b i).type (is_float (field_at set b i)) levels b g i k r refl inside place group held)
+      whole

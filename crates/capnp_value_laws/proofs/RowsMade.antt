@@ -16,11 +16,11 @@ use Rattle.capnp_value_laws.specs.Laws.{AreDoneToRoom, HasPlace}
 use Rattle.capnp_value_laws.specs.Trees.{printed_value}
 use Rattle.capnp_value_laws.proofs.RowsPrinted.{missing, of_parts, plain, set, with_group, with_lists}
 
-abbrev call : List PathStep → PathStep → Op → Call
+abbrev pub call : List PathStep → PathStep → Op → Call
 call path last op = record { path = path; last = last; op = op }
 
 abbrev calls_of : Record → Read (List Call)
-calls_of r = root_calls set 0 (printed_value set (StructType 0 0) (value.Struct r))
+calls_of r = root_calls set 0 (printed_value set false (StructType 0 0) (value.Struct r))
 
 abbrev plain_calls : List PathStep → List Call
 plain_calls path = call path (FieldNumber 0) (Set (IntSource 1 (negsuc 4))) ∷ call path (FieldNumber 2) (Set VoidSource) ∷ call path (FieldNumber 7) (Set (BoolSource true)) ∷ []

@@ -13,7 +13,7 @@ use Rattle.capnp_value_texts.specs.Written.{Fields, Items, Leaf, NoPart, Part, W
 use Rattle.capnp_value_laws.specs.Texts.{IsTextOf}
 use Rattle.capnp_value_laws.specs.Trees.{printed_value}
 use Rattle.capnp_value_laws.proofs.OneLine.{one_line as only_line}
-use Rattle.capnp_value_laws.specs.Whole.{IsPlainField, IsWhole}
+use Rattle.capnp_value_laws.specs.Whole.{IsFieldName, IsWhole}
 
 abbrev field : List ℕ → ℕ → FieldKind → Field
 field name member kind = record { name = name; discriminant_value = member; annotations = []; kind = kind }
@@ -96,7 +96,7 @@ abbrev pub with_group : Record
 with_group = of_parts (value.Number (pos 0)) missing missing missing (value.Truth false) (Active 6 (value.Group (Parts (row (value.Number (pos 300) ∷ value.Struct plain ∷ [])) NoUnion)))
 
 abbrev one_line : Record → List ℕ
-one_line r = line_on (printed_value set (StructType 0 0) (value.Struct r)) []
+one_line r = line_on (printed_value set false (StructType 0 0) (value.Struct r)) []
 
 plain_line : one_line plain ≡ codes "(a = -5, v = (), z = true)"
 unfolding digits
@@ -111,7 +111,7 @@ unfolding digits
 group_line = refl
 
 -- a member of discriminant value 0 isn't printed where it is null
-null_lines : map (λ (u : Union). line_on (printed_value set (StructType 2 2) (value.Struct (Parts (row (value.Elsewhere ∷ value.Elsewhere ∷ [])) u))) []) (Active 0 missing ∷ Active 0 (value.Text []) ∷ Active 1 (value.Text []) ∷ [])
+null_lines : map (λ (u : Union). line_on (printed_value set false (StructType 2 2) (value.Struct (Parts (row (value.Elsewhere ∷ value.Elsewhere ∷ [])) u))) []) (Active 0 missing ∷ Active 0 (value.Text []) ∷ Active 1 (value.Text []) ∷ [])
     ≡ codes "()" ∷ codes "(x = \"\")" ∷ codes "(y = \"\")" ∷ []
 unfolding debug_escape
 null_lines = refl
@@ -156,15 +156,15 @@ no_line h = differs (only_line (Items 0 (Part 0 [] (Leaf 0 (codes "1")) NoPart))
 
 -- ---- which are whole ----
 
-named_first : IsPlainField (field_at set 0 0)
-named_first = record { name = (omega arith, refl); floats = refl }
+named_first : IsFieldName (field_at set 0 0).field.name
+named_first = (omega arith, refl)
 
 -- `()` of the member takes a second bracket
-plain_is_whole : IsWhole set 2 (StructType 0 0) (value.Struct plain)
+plain_is_whole : IsWhole set false 2 (StructType 0 0) (value.Struct plain)
 plain_is_whole = (
   (
     omega arith,
-    (named_first, ((omega arith, omega arith), tt)),
+    (named_first, ((omega arith, omega arith), tt, tt)),
     (
       omega arith,
       refl,
@@ -185,7 +185,7 @@ plain_is_whole = (
                 tt,
                 (
                   omega arith,
-                  (record { name = (omega arith, refl); floats = refl }, (tt, tt)),
+                  ((omega arith, refl), (tt, tt, tt)),
                   refl,
                 ),
               ),
@@ -195,24 +195,24 @@ plain_is_whole = (
       ),
     ),
   ),
-  (omega arith, refl, (record { name = (omega arith, refl); floats = refl }, (tt, tt))),
+  (omega arith, refl, ((omega arith, refl), (tt, tt, tt))),
 )
 
-one_bracket_is_too_few : IsWhole set 1 (StructType 0 0) (value.Struct plain) → ⊥
+one_bracket_is_too_few : IsWhole set false 1 (StructType 0 0) (value.Struct plain) → ⊥
 one_bracket_is_too_few h = h.1.2.1
 
-first_is_whole : IsWhole set 1 (StructType 2 2) (value.Struct (Parts (row (value.Elsewhere ∷ value.Elsewhere ∷ [])) (Active 0 missing)))
+first_is_whole : IsWhole set false 1 (StructType 2 2) (value.Struct (Parts (row (value.Elsewhere ∷ value.Elsewhere ∷ [])) (Active 0 missing)))
 first_is_whole = ((omega arith, tt, (omega arith, tt, refl)), (omega arith, refl, refl))
 
 -- what is printed of a null pointer there is its default, which would stand there
-null_member_is_not : IsWhole set 1 (StructType 2 2) (value.Struct (Parts (row (value.Elsewhere ∷ value.Elsewhere ∷ [])) (Active 1 missing))) → ⊥
+null_member_is_not : IsWhole set false 1 (StructType 2 2) (value.Struct (Parts (row (value.Elsewhere ∷ value.Elsewhere ∷ [])) (Active 1 missing))) → ⊥
 null_member_is_not h = h.1.2.1.0
 
-null_element_is_not : IsWhole set 1 (ListType TextType) (value.Elements (row (missing ∷ []))) → ⊥
+null_element_is_not : IsWhole set false 1 (ListType TextType) (value.Elements (row (missing ∷ []))) → ⊥
 null_element_is_not h = h.1.0.0
 
-levels_are_not : IsWhole set 2 (StructType 0 0) (value.Struct (of_parts (value.Number (pos 0)) (value.Missing (Left 63)) missing missing (value.Truth true) (Active 2 value.Void))) → ⊥
+levels_are_not : IsWhole set false 2 (StructType 0 0) (value.Struct (of_parts (value.Number (pos 0)) (value.Missing (Left 63)) missing missing (value.Truth true) (Active 2 value.Void))) → ⊥
 levels_are_not h = h.0.2.1
 
-past_ascii_is_not : IsWhole set 1 TextType (value.Text (200 ∷ [])) → ⊥
+past_ascii_is_not : IsWhole set false 1 TextType (value.Text (200 ∷ [])) → ⊥
 past_ascii_is_not h = let no : false ≡ true = h.0.0 in grind (arith)

@@ -7,7 +7,9 @@ use Rattle.capnp_records.specs.Default.{read_of}
 use Rattle.capnp_records.specs.Facts.Spelled.{said_both}
 use Rattle.capnp_records.specs.Record as value
 use Rattle.capnp_records.specs.Record.{Active, Levels, MoreValues, NoUnion, NoValues, Record, Union, Unknown, Value, Values, is_there}
-use Rattle.capnp_records.specs.Text.{Inner, Layout, Member, Out, after, before, deeper, element_texts, item, item_if, later, line, list_text, member, member_rest, more_text, part_text, record_text, said_text, separator, shown, struct_text, text_within, value_text, within}
+use Rattle.capnp_records.specs.Text.{Layout, Member, Out, after, before, deeper, element_texts, item, item_if, later, line, list_text, member_rest, more_text, said_text, separator, struct_text}
+use Rattle.capnp_json_fields.specs.Marks.{is_float}
+use Rattle.capnp_float_texts.specs.Texts.{Inner, member, part_text, record_text, shown, text_within, value_text, within}
 use Rattle.capnp_value_texts.specs.Lines.{name_on}
 use Rattle.capnp_value_texts.specs.Written.{Fields, Items, NoPart, Part, Parts, Written, closing}
 use Rattle.capnp_value_texts.specs.declared.parts.Bracket.{Bracket}
@@ -15,7 +17,7 @@ use Rattle.capnp_value_texts.specs.declared.parts.Bracket.TheVariants.{Round, Sq
 use Rattle.capnp_value_laws.specs.Texts.{AreFirst, AreMore, IsTextOf}
 use Rattle.capnp_value_laws.specs.Trees.{MemberPart, both_parts, member_behind, member_left, own_parts, part_if, part_later, parts_before, printed_elements, printed_fields, printed_member, printed_record, printed_value}
 use Rattle.capnp_diffs.specs.Changes.{ByKind, Either}
-use Rattle.capnp_value_laws.specs.Whole.{AreWhole, AreWholeFields, IsElsewhere, IsPlainField, IsNull, IsWhole, IsWholeGroup, IsWholeRecord, IsWholeUnion}
+use Rattle.capnp_value_laws.specs.Whole.{AreWhole, AreWholeFields, IsElsewhere, IsFieldName, IsNull, IsWhole, IsWholeGroup, IsWholeRecord, IsWholeUnion}
 use Rattle.capnp_value_laws.proofs.Leaves.{Spelt, leaf_said}
 
 -- ---- items ----
@@ -150,24 +152,24 @@ none_left (x ∷ xs) (suc i) e = let l = none_left xs i e in omega (arith, l)
 
 -- ---- what isn't read as its default ----
 
-missing_is_not : (set : Schemas) (levels : ℕ) (t : SchemaType) (l : Levels) → IsWhole set levels t (value.Missing l) → ⊥
-missing_is_not set zero VoidType l h = h.0
-missing_is_not set (suc levels) VoidType l h = h.0
-missing_is_not set levels t l h = h.0
+missing_is_not : (set : Schemas) (floats : Bool) (levels : ℕ) (t : SchemaType) (l : Levels) → IsWhole set floats levels t (value.Missing l) → ⊥
+missing_is_not set floats zero VoidType l h = h.0
+missing_is_not set floats (suc levels) VoidType l h = h.0
+missing_is_not set floats levels t l h = h.0
 
-group_is_not : (set : Schemas) (levels : ℕ) (t : SchemaType) (r : Record) → IsWhole set levels t (value.Group r) → ⊥
-group_is_not set zero VoidType r h = h.0
-group_is_not set (suc levels) VoidType r h = h.0
-group_is_not set levels t r h = h.0
+group_is_not : (set : Schemas) (floats : Bool) (levels : ℕ) (t : SchemaType) (r : Record) → IsWhole set floats levels t (value.Group r) → ⊥
+group_is_not set floats zero VoidType r h = h.0
+group_is_not set floats (suc levels) VoidType r h = h.0
+group_is_not set floats levels t r h = h.0
 
-pub slot_part : (set : Schemas) (inner : Inner) (at : Layout) (d : SchemaValue) (levels : ℕ) (t : SchemaType) (v : Value) → IsWhole set levels t v → part_text set inner at d t v ≡ inner at t v
-slot_part set inner at d levels t (value.Group r) h = absurd (group_is_not set levels t r h)
-slot_part set inner at d levels t (value.Missing l) h = absurd (missing_is_not set levels t l h)
-slot_part set inner at d levels t v h = refl
+pub slot_part : (set : Schemas) (inner : Inner) (floats : Bool) (at : Layout) (d : SchemaValue) (levels : ℕ) (t : SchemaType) (v : Value) → IsWhole set floats levels t v → part_text set inner floats at d t v ≡ inner floats at t v
+slot_part set inner floats at d levels t (value.Group r) h = absurd (group_is_not set floats levels t r h)
+slot_part set inner floats at d levels t (value.Missing l) h = absurd (missing_is_not set floats levels t l h)
+slot_part set inner floats at d levels t v h = refl
 
-read_same : (set : Schemas) (d : SchemaValue) (levels : ℕ) (t : SchemaType) (v : Value) → IsWhole set levels t v → read_of set d t v ≡ v
-read_same set d levels t (value.Missing l) h = absurd (missing_is_not set levels t l h)
-read_same set d levels t v h = refl
+read_same : (set : Schemas) (floats : Bool) (d : SchemaValue) (levels : ℕ) (t : SchemaType) (v : Value) → IsWhole set floats levels t v → read_of set d t v ≡ v
+read_same set floats d levels t (value.Missing l) h = absurd (missing_is_not set floats levels t l h)
+read_same set floats d levels t v h = refl
 
 -- ---- levels ----
 
@@ -200,11 +202,11 @@ where_shown true A B e h = h
 where_shown false A B e h = let no : ⊥ = cc in absurd no
 
 module _ (set : Schemas) (inner : Inner) (at : Layout) where
-  part_said : (levels : ℕ) (kind : FieldKind) (d : SchemaValue) (t : SchemaType) (v : Value) (w : Written)
-      → (IsWhole set levels t v → Spelt at w (inner at t v)) → (IsWholeGroup set levels t v → Spelt at w (part_text set inner at d t v))
-      → ByKind kind (IsWhole set levels t v) (IsWholeGroup set levels t v) → Spelt at w (part_text set inner at d t v)
-  part_said levels (Slot offset default) d t v w slot group h = same_spelt at w (part_text set inner at d t v) (inner at t v) (slot_part set inner at d levels t v h) (slot h)
-  part_said levels (Group node) d t v w slot group h = group h
+  part_said : (floats : Bool) (levels : ℕ) (kind : FieldKind) (d : SchemaValue) (t : SchemaType) (v : Value) (w : Written)
+      → (IsWhole set floats levels t v → Spelt at w (inner floats at t v)) → (IsWholeGroup set levels t v → Spelt at w (part_text set inner floats at d t v))
+      → ByKind kind (IsWhole set floats levels t v) (IsWholeGroup set levels t v) → Spelt at w (part_text set inner floats at d t v)
+  part_said floats levels (Slot offset default) d t v w slot group h = same_spelt at w (part_text set inner floats at d t v) (inner floats at t v) (slot_part set inner floats at d levels t v h) (slot h)
+  part_said floats levels (Group node) d t v w slot group h = group h
 
   -- a field of a record: what is shown of it and of the fields behind it
   field_said : (f : TypedField) (b i : ℕ) (fs : List TypedField) (vs : Values) (m : MemberPart) (n : Member) (w : Written) (o : Out) (q there : Bool) (A B C : Type 0) → IsMemberText at m n
@@ -223,29 +225,29 @@ module _ (set : Schemas) (inner : Inner) (at : Layout) where
 
 module _ (set : Schemas) where
   mutual
-    pub value_said : (levels : ℕ) (t : SchemaType) (v : Value) (at : Layout) (n : ℕ) → levels ≤ n → IsWhole set levels t v → Spelt at (printed_value set t v) (text_within set n at t v)
-    value_said (suc levels) (StructType b g) (value.Struct r) at n k h =
-        same_spelt at (Fields 0 (printed_record set b r)) (text_within set n at (StructType b g) (value.Struct r)) (within (inner_of set n) (λ text. record_text set text at b r))
-        (ap (λ (text : Inner). text at (StructType b g) (value.Struct r)) (within_is set n))
+    pub value_said : (floats : Bool) (levels : ℕ) (t : SchemaType) (v : Value) (at : Layout) (n : ℕ) → levels ≤ n → IsWhole set floats levels t v → Spelt at (printed_value set floats t v) (text_within set n floats at t v)
+    value_said floats (suc levels) (StructType b g) (value.Struct r) at n k h =
+        same_spelt at (Fields 0 (printed_record set b r)) (text_within set n floats at (StructType b g) (value.Struct r)) (within (inner_of set n) (λ text. record_text set text at b r))
+        (ap (λ (text : Inner). text floats at (StructType b g) (value.Struct r)) (within_is set n))
         (entered set at (Fields 0 (printed_record set b r)) levels n (λ text. record_text set text at b r) k (λ m j. record_said levels b r at m j h))
-    value_said (suc levels) (ListType e) (value.Elements vs) at n k h =
-        same_spelt at (Items 0 (printed_elements set e vs)) (text_within set n at (ListType e) (value.Elements vs)) (within (inner_of set n) (λ text. list_text at (element_texts set text (deeper at) e vs)))
-        (ap (λ (text : Inner). text at (ListType e) (value.Elements vs)) (within_is set n))
-        (entered set at (Items 0 (printed_elements set e vs)) levels n (λ text. list_text at (element_texts set text (deeper at) e vs)) k
-        (λ m j. list_said at (printed_elements set e vs) (element_texts set (text_within set m) (deeper at) e vs) (elements_said levels e vs (deeper at) m j h.1)))
-    value_said zero t value.Void at n k h = absurd h
-    value_said levels t v at n k h =
-        same_spelt at (printed_value set t v) (text_within set n at t v) (value_text set (inner_of set n) at t v) (ap (λ (text : Inner). text at t v) (within_is set n)) (leaf_said set (inner_of set n) at t v h)
+    value_said floats (suc levels) (ListType e) (value.Elements vs) at n k h =
+        same_spelt at (Items 0 (printed_elements set floats e vs)) (text_within set n floats at (ListType e) (value.Elements vs)) (within (inner_of set n) (λ text. list_text at (element_texts set (text floats) (deeper at) e vs)))
+        (ap (λ (text : Inner). text floats at (ListType e) (value.Elements vs)) (within_is set n))
+        (entered set at (Items 0 (printed_elements set floats e vs)) levels n (λ text. list_text at (element_texts set (text floats) (deeper at) e vs)) k
+        (λ m j. list_said at (printed_elements set floats e vs) (element_texts set (text_within set m floats) (deeper at) e vs) (elements_said floats levels e vs (deeper at) m j h.1)))
+    value_said floats zero t value.Void at n k h = absurd h
+    value_said floats levels t v at n k h =
+        same_spelt at (printed_value set floats t v) (text_within set n floats at t v) (value_text set (inner_of set n) floats at t v) (ap (λ (text : Inner). text floats at t v) (within_is set n)) (leaf_said set (inner_of set n) floats at t v h)
 
-    pub group_said : (levels : ℕ) (t : SchemaType) (v : Value) (at : Layout) (d : SchemaValue) (n : ℕ) → levels ≤ n → IsWholeGroup set levels t v → Spelt at (printed_value set t v) (part_text set (text_within set n) at d t v)
-    group_said (suc levels) (StructType b g) (value.Group r) at d n k h = record_said levels b r at n (omega (arith, k)) h
-    group_said levels t v at d n k h = absurd h
+    pub group_said : (floats : Bool) (levels : ℕ) (t : SchemaType) (v : Value) (at : Layout) (d : SchemaValue) (n : ℕ) → levels ≤ n → IsWholeGroup set levels t v → Spelt at (printed_value set floats t v) (part_text set (text_within set n) floats at d t v)
+    group_said floats (suc levels) (StructType b g) (value.Group r) at d n k h = record_said levels b r at n (omega (arith, k)) h
+    group_said floats levels t v at d n k h = absurd h
 
-    elements_said : (levels : ℕ) (e : SchemaType) (vs : Values) (at : Layout) (n : ℕ) → levels ≤ n → AreWhole set levels e vs → AreItems at Square (printed_elements set e vs) (element_texts set (text_within set n) at e vs)
-    elements_said levels e NoValues at n k h = tt
-    elements_said levels e (MoreValues v vs) at n k h =
-        let said = value_said levels e v at n k h.0 in
-        ((said.0, said.1, ap (text_within set n at e) (read_same set VoidValue levels e v h.0) ∙ said.2), elements_said levels e vs at n k h.1)
+    elements_said : (floats : Bool) (levels : ℕ) (e : SchemaType) (vs : Values) (at : Layout) (n : ℕ) → levels ≤ n → AreWhole set floats levels e vs → AreItems at Square (printed_elements set floats e vs) (element_texts set (text_within set n floats) at e vs)
+    elements_said floats levels e NoValues at n k h = tt
+    elements_said floats levels e (MoreValues v vs) at n k h =
+        let said = value_said floats levels e v at n k h.0 in
+        ((said.0, said.1, ap (text_within set n floats at e) (read_same set floats VoidValue levels e v h.0) ∙ said.2), elements_said floats levels e vs at n k h.1)
 
     record_said : (levels b : ℕ) (r : Record) (at : Layout) (n : ℕ) → levels ≤ n → IsWholeRecord set levels b r → Spelt at (Fields 0 (printed_record set b r)) (record_text set (text_within set n) at b r)
     record_said levels b (value.Parts vs u) at n k h =
@@ -260,21 +262,21 @@ module _ (set : Schemas) where
     fields_said levels b i (MoreValues v vs) (f ∷ fs) m y at n k e members h =
         let rest = rest_of_fields (fields_of set b) i f fs e in
         subst (λ (x : TypedField). AreItems at Round (printed_fields set b i (MoreValues v vs) m) (shown set (text_within set n) at (x ∷ fs) i (MoreValues v vs) y)) rest.1
-        (field_said set (text_within set n) at (field_at set b i) b i fs vs m y (printed_value set (field_at set b i).type v)
-        (part_text set (text_within set n) at (default_of (field_at set b i).field) (field_at set b i).type v) (is_member (field_at set b i).field) (is_there v) (IsElsewhere v)
-        (IsPlainField (field_at set b i) × ByKind (field_at set b i).field.kind (IsWhole set levels (field_at set b i).type v) (IsWholeGroup set levels (field_at set b i).type v)) (IsNull (field_at set b i).field.kind (field_at set b i).type v)
+        (field_said set (text_within set n) at (field_at set b i) b i fs vs m y (printed_value set (is_float (field_at set b i)) (field_at set b i).type v)
+        (part_text set (text_within set n) (is_float (field_at set b i)) at (default_of (field_at set b i).field) (field_at set b i).type v) (is_member (field_at set b i).field) (is_there v) (IsElsewhere v)
+        (IsFieldName (field_at set b i).field.name × ByKind (field_at set b i).field.kind (IsWhole set (is_float (field_at set b i)) levels (field_at set b i).type v) (IsWholeGroup set levels (field_at set b i).type v)) (IsNull (field_at set b i).field.kind (field_at set b i).type v)
         members (λ p q next. fields_said levels b (suc i) vs fs p q at n k rest.0 next h.2) h.1
-        (λ whole. part_said set (text_within set n) at levels (field_at set b i).field.kind (default_of (field_at set b i).field) (field_at set b i).type v (printed_value set (field_at set b i).type v)
-        (value_said levels (field_at set b i).type v at n k) (group_said levels (field_at set b i).type v at (default_of (field_at set b i).field) n k) whole.1))
+        (λ whole. part_said set (text_within set n) at (is_float (field_at set b i)) levels (field_at set b i).field.kind (default_of (field_at set b i).field) (field_at set b i).type v (printed_value set (is_float (field_at set b i)) (field_at set b i).type v)
+        (value_said (is_float (field_at set b i)) levels (field_at set b i).type v at n k) (group_said (is_float (field_at set b i)) levels (field_at set b i).type v at (default_of (field_at set b i).field) n k) whole.1))
 
     union_said : (levels b : ℕ) (u : Union) (at : Layout) (n : ℕ) → levels ≤ n → IsWholeUnion set levels b u → IsMemberText at (printed_member set b u) (member set (text_within set n) at b u)
     union_said levels b NoUnion at n k h = tt
     union_said levels b (Unknown number) at n k h = tt
     union_said levels b (Active i v) at n k h = (
       refl,
-      shown_said at (is_there v || not ((field_at set b i).field.discriminant_value == 0)) (field_at set b i) (printed_value set (field_at set b i).type v)
-          (part_text set (text_within set n) at (default_of (field_at set b i).field) (field_at set b i).type v)
-          (λ shown. part_said set (text_within set n) at levels (field_at set b i).field.kind (default_of (field_at set b i).field) (field_at set b i).type v (printed_value set (field_at set b i).type v)
-          (value_said levels (field_at set b i).type v at n k) (group_said levels (field_at set b i).type v at (default_of (field_at set b i).field) n k)
+      shown_said at (is_there v || not ((field_at set b i).field.discriminant_value == 0)) (field_at set b i) (printed_value set (is_float (field_at set b i)) (field_at set b i).type v)
+          (part_text set (text_within set n) (is_float (field_at set b i)) at (default_of (field_at set b i).field) (field_at set b i).type v)
+          (λ shown. part_said set (text_within set n) at (is_float (field_at set b i)) levels (field_at set b i).field.kind (default_of (field_at set b i).field) (field_at set b i).type v (printed_value set (is_float (field_at set b i)) (field_at set b i).type v)
+          (value_said (is_float (field_at set b i)) levels (field_at set b i).type v at n k) (group_said (is_float (field_at set b i)) levels (field_at set b i).type v at (default_of (field_at set b i).field) n k)
           (where_shown (is_there v || not ((field_at set b i).field.discriminant_value == 0)) _ _ shown h.2).1),
     )

@@ -10,8 +10,10 @@ use Rattle.capnp_records.specs.Part.{value_count, with_part}
 use Rattle.capnp_records.specs.Record as value
 use Rattle.capnp_records.specs.Record.{Endless, Parts, Record, Value}
 use Rattle.capnp_records.specs.Run.{Run, root_type}
-use Rattle.capnp_records.specs.Text.{Layout, said_text, text_of}
+use Rattle.capnp_records.specs.Text.{Layout, Out, said_text, text_of}
 use Rattle.capnp_json_fields.specs.Marks.{is_float}
+use Rattle.capnp_float_texts.specs.Laws.{HasNoFloats}
+use Rattle.capnp_float_texts.specs.Texts.{float_text_of}
 use Rattle.capnp_diffs.specs.Laws.{AreDone, HaveRoom}
 use Rattle.capnp_value_texts.specs.Calls.{field_of_text, root_of_text}
 use Rattle.capnp_value_texts.specs.Lines.{HasLine, line_on}
@@ -26,11 +28,15 @@ use Rattle.capnp_value_laws.specs.Whole.{IsWhole, IsWholeGroup}
 abbrev pub layout_of : (indented : Bool) → Layout
 layout_of indented = cond indented (Some 0) None
 
+-- What is printed of a value: its text with floats, or under a set that has none the one that shows none.
+abbrev pub IsPrint : Schemas → (floats indented : Bool) → SchemaType → Value → Out → Type 0
+IsPrint set floats indented t v o = (o ≡ float_text_of set floats indented t v) ⊎ (HasNoFloats set × (floats ≡ false) × (o ≡ text_of set indented t v))
+
 -- A whole value has a text, on one line and on lines: one of its tree, which has no more brackets within one another than are read.
 abbrev pub WholeValuesArePrinted : Type 0
 WholeValuesArePrinted =
-    (set : Schemas) (indented : Bool) (t : SchemaType) (v : Value) → IsWhole set most_levels t v
-    → HasLine most_levels (printed_value set t v) × (text : List ℕ) × (text_of set indented t v ≡ said_text text) × IsTextOf (layout_of indented) (printed_value set t v) text
+    (set : Schemas) (floats indented : Bool) (t : SchemaType) (v : Value) (o : Out) → IsWhole set floats most_levels t v → IsPrint set floats indented t v o
+    → HasLine most_levels (printed_value set floats t v) × (text : List ℕ) × (o ≡ said_text text) × IsTextOf (layout_of indented) (printed_value set floats t v) text
 
 -- without lines there is one such text
 abbrev pub OneLineIsOneText : Type 0
@@ -54,14 +60,14 @@ HasPlace (Parts vs u) f i = Either (is_member f) ⊤ (i < value_count vs)
 -- A whole record has a text, on one line and on lines, and calls that lead from the new record to it are read of that text.
 abbrev pub PrintedRecordsAreMade : Type 0
 PrintedRecordsAreMade =
-    (set : Schemas) (indented : Bool) (b : ℕ) (r : Record) → IsAccepted set → IsWhole set most_levels (root_type set b) (value.Struct r)
-    → (text : List ℕ) × (text_of set indented (root_type set b) (value.Struct r) ≡ said_text text)
+    (set : Schemas) (indented : Bool) (b : ℕ) (r : Record) (o : Out) → IsAccepted set → IsWhole set false most_levels (root_type set b) (value.Struct r)
+    → IsPrint set false indented (root_type set b) (value.Struct r) o → (text : List ℕ) × (o ≡ said_text text)
     × (calls : List Call) × (root_of_text set b text ≡ Ok calls) × Lead set b (default_record set Endless b) calls r
 
 -- The same of a field's value: in any record with a place for it, the calls leave it there, and nothing else is another.
 abbrev pub PrintedFieldsAreMade : Type 0
 PrintedFieldsAreMade =
-    (set : Schemas) (indented : Bool) (b i : ℕ) (old : Record) (v : Value) → IsAccepted set → i < length (fields_of set b) → HasPlace old (field_at set b i).field i → is_float (field_at set b i) ≡ false
-    → ByKind (field_at set b i).field.kind (IsWhole set most_levels (field_at set b i).type v) (IsWholeGroup set most_levels (field_at set b i).type v)
-    → (text : List ℕ) × (text_of set indented (field_at set b i).type v ≡ said_text text)
+    (set : Schemas) (indented : Bool) (b i : ℕ) (old : Record) (v : Value) (o : Out) → IsAccepted set → i < length (fields_of set b) → HasPlace old (field_at set b i).field i
+    → ByKind (field_at set b i).field.kind (IsWhole set (is_float (field_at set b i)) most_levels (field_at set b i).type v) (IsWholeGroup set most_levels (field_at set b i).type v)
+    → IsPrint set (is_float (field_at set b i)) indented (field_at set b i).type v o → (text : List ℕ) × (o ≡ said_text text)
     × (calls : List Call) × (field_of_text set (field_at set b i) i text ≡ Ok calls) × Lead set b old calls (with_part old (field_at set b i).field i v)

@@ -11,7 +11,7 @@ use Rattle.capnp_records.specs.Call.{Call}
 use Rattle.capnp_records.specs.Part.{with_part}
 use Rattle.capnp_records.specs.Record as value
 use Rattle.capnp_records.specs.Record.{Record, Value}
-use Rattle.capnp_records.specs.Text.{said_text, text_of}
+use Rattle.capnp_records.specs.Text.{said_text}
 use Rattle.capnp_json_fields.specs.Marks.{is_float}
 use Rattle.capnp_dynamic_readers.specs.Typed.{struct_type}
 use Rattle.capnp_slots.specs.Fields.{field_set}
@@ -24,6 +24,7 @@ use Rattle.capnp_value_texts.specs.Written.{most_levels}
 use Rattle.capnp_value_texts.specs.declared.error.Error.{Error}
 use Rattle.capnp_value_texts.specs.declared.error.Error.TheVariants as error
 use Rattle.capnp_diffs.specs.Changes.{ByKind}
+use Rattle.capnp_value_laws.specs.Laws.{IsPrint}
 use Rattle.capnp_value_laws.specs.Whole.{IsWhole, IsWholeGroup}
 
 -- memory was refused, or a call was for room
@@ -40,14 +41,14 @@ pub record OnlyMakes (schema : StructSchema) (calls : Read (List Call)) (r : Rec
 -- what is printed of a whole record makes it
 abbrev pub PrintedRootsAreRead : Type 0
 PrintedRootsAreRead =
-    (schema : StructSchema) (indented : Bool) (r : Record) (text : List ℕ) → IsStruct schema → IsWhole (set_of schema) most_levels (struct_type schema) (value.Struct r)
-    → text_of (set_of schema) indented (struct_type schema) (value.Struct r) ≡ said_text text
+    (schema : StructSchema) (indented : Bool) (r : Record) (text : List ℕ) → IsStruct schema → IsWhole (set_of schema) false most_levels (struct_type schema) (value.Struct r)
+    → IsPrint (set_of schema) false indented (struct_type schema) (value.Struct r) (said_text text)
     → OnlyMakes schema (root_of_text (set_of schema) (number_of schema) text) r
 
 -- what is printed of a field's value makes the record of an empty root with that value
 abbrev pub PrintedFieldsAreRead : Type 0
 PrintedFieldsAreRead =
-    (f : Field) (indented : Bool) (v : Value) (text : List ℕ) → IsStruct (field_schema f) → index_of f < length (struct_fields (field_schema f)) → is_float (typed_of f) ≡ false
-    → ByKind (typed_of f).field.kind (IsWhole (field_set f) most_levels (typed_of f).type v) (IsWholeGroup (field_set f) most_levels (typed_of f).type v)
-    → text_of (field_set f) indented (typed_of f).type v ≡ said_text text
+    (f : Field) (indented : Bool) (v : Value) (text : List ℕ) → IsStruct (field_schema f) → index_of f < length (struct_fields (field_schema f))
+    → ByKind (typed_of f).field.kind (IsWhole (field_set f) (is_float (typed_of f)) most_levels (typed_of f).type v) (IsWholeGroup (field_set f) most_levels (typed_of f).type v)
+    → IsPrint (field_set f) (is_float (typed_of f)) indented (typed_of f).type v (said_text text)
     → OnlyMakes (field_schema f) (field_of_text (field_set f) (typed_of f) (index_of f) text) (with_part (new_record (field_schema f)) (typed_of f).field (index_of f) v)

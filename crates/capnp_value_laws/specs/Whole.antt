@@ -1,8 +1,11 @@
 -- Values that stand whole in what is printed of them.
-use Rattle.std.specs.Prelude.{ℕ, zero, suc, ◌<◌, ◌≤◌, ◌≡◌, ⊤, List, true, false, not, ◌||◌, ◌==◌, length}
+use Rattle.std.specs.Prelude.{ℕ, zero, suc, ◌<◌, ◌≤◌, ◌≡◌, ◌⊎◌, ⊤, pos, List, Bool, true, not, ◌&&◌, ◌||◌, ◌==◌, length}
 use Rattle.std.specs.List.{list_all}
-use Rattle.capnp_schema.specs.Schema.{FieldKind, Schemas, Slot, TypedField, field_at, fields_of, is_member, node_of}
-use Rattle.capnp_schema.specs.Types.{ListType, SchemaType, StructType, is_pointer}
+use Rattle.capnp_floats.specs.Floats.{fraction, is_finite}
+use Rattle.capnp_floats.specs.declared.width.Width.{Width}
+use Rattle.capnp_floats.specs.declared.width.Width.TheVariants.{Float32, Float64}
+use Rattle.capnp_schema.specs.Schema.{FieldKind, Schemas, Slot, field_at, fields_of, is_member, node_of}
+use Rattle.capnp_schema.specs.Types.{ListType, SchemaType, StructType, UIntType, is_pointer}
 use Rattle.capnp_records.specs.Part.{value_count}
 use Rattle.capnp_records.specs.Record as value
 use Rattle.capnp_records.specs.Record.{Active, Endless, MoreValues, NoUnion, NoValues, Parts, Record, Union, Unknown, Value, Values, is_there}
@@ -17,14 +20,17 @@ use Rattle.capnp_value_texts.specs.Lengths.{ends_name}
 abbrev pub IsFieldName : List ℕ → Type 0
 IsFieldName name = (0 < length name) × (list_all (λ byte. not (ends_name byte)) name ≡ true)
 
--- the name of a field can be read, and its numbers are none of floats
-pub record IsPlainField (f : TypedField) : Type 0 where
-  pub name : IsFieldName f.field.name
-  pub floats : is_float f ≡ false
+-- the bits of a finite float or an infinity: all that is no number is printed as one
+abbrev pub IsNumber : Width → (bits : ℕ) → Type 0
+IsNumber w bits = (is_finite w bits ≡ true) ⊎ (fraction w bits ≡ 0)
+
+abbrev pub IsNoNan : (floats : Bool) → SchemaType → Value → Type 0
+IsNoNan floats (UIntType bytes) (value.Number (pos n)) = Either (floats && (bytes == 4)) (IsNumber Float32 n) (Either (floats && (bytes == 8)) (IsNumber Float64 n) ⊤)
+IsNoNan floats t v = ⊤
 
 -- a value that holds no others: numbers in their range, texts of ASCII, enums whose enumerants' names can be told apart
-abbrev pub IsWholeLeaf : Schemas → SchemaType → Value → Type 0
-IsWholeLeaf set t v = IsWritable set t v × HasLeafNames set t
+abbrev pub IsWholeLeaf : Schemas → (floats : Bool) → SchemaType → Value → Type 0
+IsWholeLeaf set floats t v = IsWritable set t v × HasLeafNames set t × IsNoNan floats t v
 
 -- a null pointer of a slot, as a new struct has
 abbrev pub IsNull : FieldKind → SchemaType → Value → Type 0
@@ -38,20 +44,20 @@ IsElsewhere v = ⊥
 -- With so many brackets within one another at the most, of which `()` takes one. Each part that is printed is whole, so none of them
 -- is a null pointer; each other is as a new struct has it.
 abbrev mutual
-  pub IsWhole : Schemas → (levels : ℕ) → SchemaType → Value → Type 0
-  IsWhole set (suc levels) (StructType b g) (value.Struct r) = IsWholeRecord set levels b r
-  IsWhole set (suc levels) (ListType e) (value.Elements vs) = (value_count vs ≤ most_parts) × AreWhole set levels e vs
-  IsWhole set zero t value.Void = ⊥
-  IsWhole set levels t v = IsWholeLeaf set t v
+  pub IsWhole : Schemas → (floats : Bool) → (levels : ℕ) → SchemaType → Value → Type 0
+  IsWhole set floats (suc levels) (StructType b g) (value.Struct r) = IsWholeRecord set levels b r
+  IsWhole set floats (suc levels) (ListType e) (value.Elements vs) = (value_count vs ≤ most_parts) × AreWhole set floats levels e vs
+  IsWhole set floats zero t value.Void = ⊥
+  IsWhole set floats levels t v = IsWholeLeaf set floats t v
 
   -- a group has a place of its own
   pub IsWholeGroup : Schemas → (levels : ℕ) → SchemaType → Value → Type 0
   IsWholeGroup set (suc levels) (StructType b g) (value.Group r) = IsWholeRecord set levels b r
   IsWholeGroup set levels t v = ⊥
 
-  pub AreWhole : Schemas → (levels : ℕ) → SchemaType → Values → Type 0
-  AreWhole set levels e NoValues = ⊤
-  AreWhole set levels e (MoreValues v vs) = IsWhole set levels e v × AreWhole set levels e vs
+  pub AreWhole : Schemas → (floats : Bool) → (levels : ℕ) → SchemaType → Values → Type 0
+  AreWhole set floats levels e NoValues = ⊤
+  AreWhole set floats levels e (MoreValues v vs) = IsWhole set floats levels e v × AreWhole set floats levels e vs
 
   -- a value for each non-union field, and the union of the node
   pub IsWholeRecord : Schemas → (levels brand : ℕ) → Record → Type 0
@@ -63,7 +69,7 @@ abbrev mutual
       (i < length (fields_of set b))
       × Either (is_member (field_at set b i).field) (IsElsewhere v)
       (Either (is_there v)
-      (IsPlainField (field_at set b i) × ByKind (field_at set b i).field.kind (IsWhole set levels (field_at set b i).type v) (IsWholeGroup set levels (field_at set b i).type v))
+      (IsFieldName (field_at set b i).field.name × ByKind (field_at set b i).field.kind (IsWhole set (is_float (field_at set b i)) levels (field_at set b i).type v) (IsWholeGroup set levels (field_at set b i).type v))
       (IsNull (field_at set b i).field.kind (field_at set b i).type v))
       × AreWholeFields set levels b (suc i) vs
 
@@ -73,5 +79,5 @@ abbrev mutual
   IsWholeUnion set levels b (Active i v) =
       (i < length (fields_of set b)) × (is_member (field_at set b i).field ≡ true)
       × Either (is_there v || not ((field_at set b i).field.discriminant_value == 0))
-      (IsPlainField (field_at set b i) × ByKind (field_at set b i).field.kind (IsWhole set levels (field_at set b i).type v) (IsWholeGroup set levels (field_at set b i).type v))
+      (IsFieldName (field_at set b i).field.name × ByKind (field_at set b i).field.kind (IsWhole set (is_float (field_at set b i)) levels (field_at set b i).type v) (IsWholeGroup set levels (field_at set b i).type v))
       (IsNull (field_at set b i).field.kind (field_at set b i).type v)

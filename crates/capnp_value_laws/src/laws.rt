@@ -4,10 +4,11 @@ ghost use Rattle.capnp_value_laws.specs.Messages.{PrintedFieldsAreRead, PrintedR
 ghost use Rattle.capnp_value_laws.specs.Readers.{ReadersComeBack};
 ghost use Rattle.capnp_value_laws.specs.Texts.{TextsAreRead};
 
-use capnp_records::laws::print_law;
 use capnp_words::laws::printed_values_are_read;
+use capnp_words::marked::floats_are_read_back;
 
-/// What the printer prints of a whole value is a text of its tree, on one line and on lines.
+/// What is printed of a whole value, with its floats, is a text of its tree, on one line and on lines. So it is, here and below, where a
+/// printer shows none, under a set that has none (`IsPrint`).
 pub fn whole_values_are_printed()
     ensures { WholeValuesArePrinted }
 {}
@@ -23,12 +24,13 @@ pub fn one_line_is_one_text()
     ensures { OneLineIsOneText }
 {}
 
-/// What the printer prints of a whole record, on one line and on lines, is read as calls by which a new record becomes it. Whole is what
-/// stands in its text as it is (`IsWhole`): no floats, no untyped pointers, texts of ASCII alone, nothing that can't be read.
+/// What is printed of a whole record, on one line and on lines, is read as calls by which a new record becomes it. Whole is what stands
+/// in its text as it is (`IsWhole`): no float that is no number, no untyped pointers, texts of ASCII alone, nothing that can't be read.
 pub fn printed_records_are_made()
     ensures { PrintedRecordsAreMade }
 {
     printed_values_are_read();
+    floats_are_read_back();
 }
 
 /// The same of a value of a field: the calls leave it in its field, in any record, and nothing else is another.
@@ -36,6 +38,7 @@ pub fn printed_fields_are_made()
     ensures { PrintedFieldsAreMade }
 {
     printed_values_are_read();
+    floats_are_read_back();
 }
 
 /// So a message that `capnp_value_texts::value::read_root` makes of what is printed of a whole record has that record, and that
@@ -44,6 +47,7 @@ pub fn printed_roots_are_read()
     ensures { PrintedRootsAreRead }
 {
     printed_values_are_read();
+    floats_are_read_back();
 }
 
 /// The same of `read_field` and a field's value.
@@ -51,12 +55,13 @@ pub fn printed_fields_are_read()
     ensures { PrintedFieldsAreRead }
 {
     printed_values_are_read();
+    floats_are_read_back();
 }
 
 /// What a reader prints of a struct whose record is whole, with any levels left, makes that record.
 pub fn readers_come_back()
     ensures { ReadersComeBack }
 {
-    print_law();
     printed_values_are_read();
+    floats_are_read_back();
 }

@@ -2,4 +2,4 @@ use Rattle.capnp_value_laws.proofs.MessagesBack.{roots_read}
 use Rattle.capnp_value_laws.proofs.laws.printed_roots_are_read.Goals as goal
 
 pub returns : goal.returns
-returns c = roots_read c.printed_values_are_read.ensures
+returns c = roots_read c.printed_values_are_read.ensures c.floats_are_read_back.ensures
