@@ -254,7 +254,7 @@ pub mod value_texts {
     pub use crate::capnp_value_texts::parts::Name;
     pub use crate::capnp_value_texts::shown::{read_shown, Shown};
     pub use crate::capnp_value_texts::target::{field_target, Target};
-    pub use crate::capnp_value_texts::value::{read_field, read_root};
+    pub use crate::capnp_value_texts::value::{read_element, read_field, read_root};
 }
 
 /// What handles have in common.

@@ -23,8 +23,8 @@ use riftcalico::memory::Global;
 use riftcalico::message;
 use riftcalico::printer::to_string;
 use riftcalico::run::MOST_WORDS;
-use riftcalico::schema::{builtin, SchemaSet, StructSchema};
-use riftcalico::value_texts::{read_field, read_root, read_shown, Error, Name, Refusal, RefusalKind, Shown};
+use riftcalico::schema::{builtin, Field, SchemaSet, StructSchema};
+use riftcalico::value_texts::{read_element, read_field, read_root, read_shown, Error, Name, Refusal, RefusalKind, Shown};
 use threads::on_all_processors;
 use RefusalKind::{CannotStand, GivenTwice, NameUnknown, TooDeep};
 
@@ -277,12 +277,38 @@ fn prints_of_examples_are_read() {
     assert!(read.len() > 15, "{read:?}");
 }
 
-/// The value of each field of a struct alone.
-fn try_fields(set: &SchemaSet, number: u32, bytes: &[u8]) -> usize {
+/// The lists that are elements of a field's list, each alone, and how many there are.
+fn try_elements(field: Field<'_>, value: Value<'_>) -> usize {
+    let Value::List(list) = value else {
+        return 0;
+    };
+    let mut tried = 0;
+    for index in 0..list.len() {
+        let element = list.get(index).expect("it can be read");
+        if !matches!(element, Value::List(_)) {
+            return 0;
+        }
+        let print = to_string(element, index % 2 == 0).expect("it has a print");
+        let made = read_element(Global, MOST_WORDS, field, 1, print.as_bytes()).unwrap_or_else(|error| panic!("{print}: {error:?}"));
+        let sections = made.get_pointer_reader(0).get_struct().expect("the root is a struct");
+        let left = dynamic_struct::Reader::new(sections, field.get_containing_struct()).get(field).expect("it can be read");
+        let Value::List(alone) = left else {
+            panic!("{print} is in no list");
+        };
+        assert_eq!(alone.len(), 1);
+        let first = alone.get(0).expect("it can be read");
+        assert_eq!(to_string(first, index % 2 == 0).expect("it has a print"), print);
+        tried += 1;
+    }
+    tried
+}
+
+/// The value of each field of a struct alone, and the lists that are elements of its lists: how many there are of both.
+fn try_fields(set: &SchemaSet, number: u32, bytes: &[u8]) -> (usize, usize) {
     let schema = set.struct_schema(number);
     let root = message::read_root(bytes, schema).expect("it is a message");
     let fields = schema.get_fields().expect("it has fields");
-    let mut tried = 0;
+    let (mut tried, mut elements) = (0, 0);
     for index in 0..fields.len() {
         let field = fields.get(index);
         if field.get_proto().is_member() && !root.is_active(field) {
@@ -298,8 +324,9 @@ fn try_fields(set: &SchemaSet, number: u32, bytes: &[u8]) -> usize {
         let left = dynamic_struct::Reader::new(sections, schema).get(field).expect("it can be read");
         assert_eq!(to_string(left, index % 2 == 0).expect("it has a print"), print);
         tried += 1;
+        elements += try_elements(field, value);
     }
-    tried
+    (tried, elements)
 }
 
 #[test]
@@ -308,20 +335,23 @@ fn prints_of_random_messages_are_read() {
         let mut random = Random::new(11, seed);
         let schema = Schema::random(&mut random);
         let set = schema.set();
-        let mut counts = (0, 0);
+        let mut counts = (0, (0, 0));
         for _ in 0..MESSAGES {
             let number = (0..schema.structs.len()).filter(|number| !schema.structs[*number].is_group).nth(0).expect("there is one");
             let bytes = random_message(&schema, number, &mut random);
             counts.0 += usize::from(try_message(&bytes, set.struct_schema(number as u32), &format!("{seed}")));
-            counts.1 += try_fields(&set, number as u32, &bytes);
+            let (fields, elements) = try_fields(&set, number as u32, &bytes);
+            counts.1 = (counts.1.0 + fields, counts.1.1 + elements);
         }
         counts
     });
-    let (messages, fields): (Vec<usize>, Vec<usize>) = counts.into_iter().unzip();
-    let (messages, fields) = (messages.iter().sum::<usize>(), fields.iter().sum::<usize>());
-    println!("{messages} messages and {fields} fields are read back");
-    assert!(messages as u64 > SCHEMAS * MESSAGES / 4);
-    assert!(fields as u64 > SCHEMAS * MESSAGES);
+    let messages = counts.iter().map(|count| count.0).sum::<usize>() as u64;
+    let fields = counts.iter().map(|count| count.1.0).sum::<usize>() as u64;
+    let elements = counts.iter().map(|count| count.1.1).sum::<usize>() as u64;
+    println!("{messages} messages, {fields} fields and {elements} lists in lists are read back");
+    assert!(messages > SCHEMAS * MESSAGES / 4);
+    assert!(fields > SCHEMAS * MESSAGES);
+    assert!(elements > SCHEMAS);
 }
 
 /// Reads a damaged text: one that is refused has a place in the text, or at its end.

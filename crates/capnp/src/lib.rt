@@ -196,7 +196,7 @@ pub mod value_texts {
     pub use capnp_value_texts::parts::Name;
     pub use capnp_value_texts::shown::{Shown, read_shown};
     pub use capnp_value_texts::target::{Target, field_target};
-    pub use capnp_value_texts::value::{read_field, read_root};
+    pub use capnp_value_texts::value::{read_element, read_field, read_root};
 }
 
 /// What handles have in common.

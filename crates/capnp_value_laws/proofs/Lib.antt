@@ -1,6 +1,7 @@
 pub mod CallsAlike
 pub mod CallsLead
 pub mod Decimals
+pub mod ElementsBack
 pub mod FloatLeaves
 pub mod Leaves
 pub mod LeavesMade

@@ -57,7 +57,7 @@ first_room (reply ∷ replies) kind (inr (inr refused)) e = inr (some_same (sym 
 
 -- ---- messages ----
 
-only_makes : (schema : StructSchema) (calls : List Call) (read : Read (List Call)) (new : Record) → read ≡ Ok calls → Lead (set_of schema) (number_of schema) (new_record schema) calls new → OnlyMakes schema read new
+pub only_makes : (schema : StructSchema) (calls : List Call) (read : Read (List Call)) (new : Record) → read ≡ Ok calls → Lead (set_of schema) (number_of schema) (new_record schema) calls new → OnlyMakes schema read new
 only_makes schema calls read new is lead = subst (λ (x : Read (List Call)). OnlyMakes schema x new) (sym is) (record { made = left; refused = not_left })
   where
     left : (t : Tree) → IsMadeOf schema (Ok calls) t → record_under_schema schema (struct_in t) ≡ new
@@ -75,7 +75,7 @@ count_parts : (part : TypedField → Value) (fs : List TypedField) → value_cou
 count_parts part [] = refl
 count_parts part (f ∷ fs) = ap suc (count_parts part fs)
 
-new_place : (set : Schemas) (b i : ℕ) (f : Field) → i < length (fields_of set b) → HasPlace (default_record set Endless b) f i
+pub new_place : (set : Schemas) (b i : ℕ) (f : Field) → i < length (fields_of set b) → HasPlace (default_record set Endless b) f i
 new_place set b i f inside = go (is_member f)
   where
     go : (q : Bool) → Either q ⊤ (i < value_count (non_union_parts (part set) (fields_of set b)))

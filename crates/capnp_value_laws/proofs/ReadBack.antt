@@ -38,13 +38,13 @@ unfolding field_of_text
 field_is set f i text = refl
 
 -- calls that lead to a record are done, and leave it
-lead_run : (set : Schemas) (b : ℕ) (calls : List Call) (old new : Record) → CallsLead set (root_type set b) (value.Struct old) calls (value.Struct new) → Lead set b old calls new
+pub lead_run : (set : Schemas) (b : ℕ) (calls : List Call) (old new : Record) → CallsLead set (root_type set b) (value.Struct old) calls (value.Struct new) → Lead set b old calls new
 lead_run set b calls old new leads replies left run = (
   run_goes set b calls old (value.Struct new) leads replies left run,
   λ room. let (done, is) = run_done set b calls old (value.Struct new) leads replies left run room in (done, struct_same is),
 )
 
-place_of : (r : Record) (f : Field) (i : ℕ) → HasPlace r f i → HasFieldPlace r f i
+pub place_of : (r : Record) (f : Field) (i : ℕ) → HasPlace r f i → HasFieldPlace r f i
 place_of (value.Parts vs u) f i place = go (is_member f) refl place
   where
     go : (q : Bool) → is_member f ≡ q → Either q ⊤ (i < value_count vs) → (is_member f ≡ true) ⊎ ((is_member f ≡ false) × (i < value_count vs))

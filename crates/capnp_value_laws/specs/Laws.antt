@@ -1,5 +1,5 @@
 -- What holds of what is printed of whole values.
-use Rattle.std.specs.Prelude.{ℕ, ◌<◌, ◌≡◌, ◌⊎◌, ⊤, List, [], ◌∷◌, Bool, false, cond, None, Ok, Some, length}
+use Rattle.std.specs.Prelude.{ℕ, zero, suc, ◌<◌, ◌≡◌, ◌⊎◌, ⊤, List, [], ◌∷◌, Bool, false, cond, None, Ok, Some, length}
 use Rattle.capnp_device.specs.declared.error.ErrorKind.TheVariants.{OutOfMemory, SizePastFormat}
 use Rattle.capnp_schema.specs.Accepted.{IsAccepted}
 use Rattle.capnp_schema.specs.Types.{SchemaType}
@@ -8,14 +8,14 @@ use Rattle.capnp_records.specs.Call.{Call, Done, Refused, Reply}
 use Rattle.capnp_records.specs.Default.{default_record}
 use Rattle.capnp_records.specs.Part.{value_count, with_part}
 use Rattle.capnp_records.specs.Record as value
-use Rattle.capnp_records.specs.Record.{Endless, Parts, Record, Value}
+use Rattle.capnp_records.specs.Record.{Elements, Endless, MoreValues, NoValues, Parts, Record, Value}
 use Rattle.capnp_records.specs.Run.{Run, root_type}
 use Rattle.capnp_records.specs.Text.{Layout, Out, said_text, text_of}
 use Rattle.capnp_json_fields.specs.Marks.{is_float}
 use Rattle.capnp_float_texts.specs.Laws.{HasNoFloats}
 use Rattle.capnp_float_texts.specs.Texts.{float_text_of}
 use Rattle.capnp_diffs.specs.Laws.{AreDone, HaveRoom}
-use Rattle.capnp_value_texts.specs.Calls.{field_of_text, root_of_text}
+use Rattle.capnp_value_texts.specs.Calls.{element_of_text, field_of_text, lists_of, root_of_text}
 use Rattle.capnp_value_texts.specs.Lines.{HasLine, line_on}
 use Rattle.capnp_value_texts.specs.Written.{Written, most_levels}
 use Rattle.capnp_value_laws.specs.Texts.{IsTextOf}
@@ -71,3 +71,18 @@ PrintedFieldsAreMade =
     → ByKind (field_at set b i).field.kind (IsWhole set (is_float (field_at set b i)) most_levels (field_at set b i).type v) (IsWholeGroup set most_levels (field_at set b i).type v)
     → IsPrint set (is_float (field_at set b i)) indented (field_at set b i).type v o → (text : List ℕ) × (o ≡ said_text text)
     × (calls : List Call) × (field_of_text set (field_at set b i) i text ≡ Ok calls) × Lead set b old calls (with_part old (field_at set b i).field i v)
+
+-- ---- elements of lists ----
+
+-- a value as the one element of a list, which is the one element of another, so many times
+abbrev pub alone_value : (depth : ℕ) → Value → Value
+alone_value zero v = v
+alone_value (suc n) v = Elements (MoreValues (alone_value n v) NoValues)
+
+-- The same of an element of the lists that a field is: the calls leave there lists with it alone.
+abbrev pub PrintedElementsAreMade : Type 0
+PrintedElementsAreMade =
+    (set : Schemas) (indented : Bool) (b i n : ℕ) (old : Record) (t : SchemaType) (v : Value) (o : Out) → IsAccepted set → b < length set.brands → i < length (fields_of set b) → HasPlace old (field_at set b i).field i
+    → (field_at set b i).type ≡ lists_of (suc n) t → IsWhole set (is_float (field_at set b i)) most_levels t v → IsPrint set (is_float (field_at set b i)) indented t v o
+    → (text : List ℕ) × (o ≡ said_text text) × (calls : List Call) × (element_of_text set (field_at set b i) i (suc n) text ≡ Ok calls)
+    × Lead set b old calls (with_part old (field_at set b i).field i (alone_value (suc n) v))

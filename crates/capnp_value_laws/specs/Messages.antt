@@ -1,9 +1,10 @@
 -- What messages have that are made of what is printed of whole values.
-use Rattle.std.specs.Prelude.{ℕ, ◌<◌, ◌≡◌, ◌⊎◌, ⊤, List, Bool, false, length}
+use Rattle.std.specs.Prelude.{ℕ, suc, ◌<◌, ◌≡◌, ◌⊎◌, ⊤, List, Bool, false, length}
 use Rattle.capnp_device.specs.declared.error.ErrorKind.TheVariants.{OutOfMemory, SizePastFormat}
 use Rattle.capnp_wire.specs.Edits.{struct_in}
 use Rattle.capnp_wire.specs.Tree.{Tree}
 use Rattle.capnp_schema.specs.FieldLists.{field_schema, index_of, typed_of}
+use Rattle.capnp_schema.specs.Types.{SchemaType}
 use Rattle.capnp_schema.specs.StructHandles.{IsStruct, number_of, set_of, struct_fields}
 use Rattle.capnp_schema.specs.declared.schema.fields.Field.{Field}
 use Rattle.capnp_schema.specs.declared.schema.structs.StructSchema.{StructSchema}
@@ -17,14 +18,14 @@ use Rattle.capnp_dynamic_readers.specs.Typed.{struct_type}
 use Rattle.capnp_slots.specs.Fields.{field_set}
 use Rattle.capnp_call.specs.Messages.{new_record}
 use Rattle.capnp_call.specs.Runs.{record_under_schema}
-use Rattle.capnp_value_texts.specs.Calls.{field_of_text, root_of_text}
+use Rattle.capnp_value_texts.specs.Calls.{element_of_text, field_of_text, lists_of, root_of_text}
 use Rattle.capnp_value_texts.specs.Errors.{Read}
 use Rattle.capnp_value_texts.specs.Values.{IsMadeOf, IsNotMadeOf}
 use Rattle.capnp_value_texts.specs.Written.{most_levels}
 use Rattle.capnp_value_texts.specs.declared.error.Error.{Error}
 use Rattle.capnp_value_texts.specs.declared.error.Error.TheVariants as error
 use Rattle.capnp_diffs.specs.Changes.{ByKind}
-use Rattle.capnp_value_laws.specs.Laws.{IsPrint}
+use Rattle.capnp_value_laws.specs.Laws.{IsPrint, alone_value}
 use Rattle.capnp_value_laws.specs.Whole.{IsWhole, IsWholeGroup}
 
 -- memory was refused, or a call was for room
@@ -52,3 +53,10 @@ PrintedFieldsAreRead =
     → ByKind (typed_of f).field.kind (IsWhole (field_set f) (is_float (typed_of f)) most_levels (typed_of f).type v) (IsWholeGroup (field_set f) most_levels (typed_of f).type v)
     → IsPrint (field_set f) (is_float (typed_of f)) indented (typed_of f).type v (said_text text)
     → OnlyMakes (field_schema f) (field_of_text (field_set f) (typed_of f) (index_of f) text) (with_part (new_record (field_schema f)) (typed_of f).field (index_of f) v)
+
+-- and of an element that of lists with it alone
+abbrev pub PrintedElementsAreRead : Type 0
+PrintedElementsAreRead =
+    (f : Field) (indented : Bool) (n : ℕ) (t : SchemaType) (v : Value) (text : List ℕ) → IsStruct (field_schema f) → index_of f < length (struct_fields (field_schema f))
+    → (typed_of f).type ≡ lists_of (suc n) t → IsWhole (field_set f) (is_float (typed_of f)) most_levels t v → IsPrint (field_set f) (is_float (typed_of f)) indented t v (said_text text)
+    → OnlyMakes (field_schema f) (element_of_text (field_set f) (typed_of f) (index_of f) (suc n) text) (with_part (new_record (field_schema f)) (typed_of f).field (index_of f) (alone_value (suc n) v))

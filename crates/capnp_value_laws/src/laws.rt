@@ -1,6 +1,6 @@
 //! What holds of what is printed of whole values, as contracts of functions that do nothing.
-ghost use Rattle.capnp_value_laws.specs.Laws.{OneLineIsOneText, PrintedFieldsAreMade, PrintedRecordsAreMade, WholeValuesArePrinted};
-ghost use Rattle.capnp_value_laws.specs.Messages.{PrintedFieldsAreRead, PrintedRootsAreRead};
+ghost use Rattle.capnp_value_laws.specs.Laws.{OneLineIsOneText, PrintedElementsAreMade, PrintedFieldsAreMade, PrintedRecordsAreMade, WholeValuesArePrinted};
+ghost use Rattle.capnp_value_laws.specs.Messages.{PrintedElementsAreRead, PrintedFieldsAreRead, PrintedRootsAreRead};
 ghost use Rattle.capnp_value_laws.specs.Readers.{ReadersComeBack};
 ghost use Rattle.capnp_value_laws.specs.Texts.{TextsAreRead};
 
@@ -41,6 +41,14 @@ pub fn printed_fields_are_made()
     floats_are_read_back();
 }
 
+/// The same of an element of the lists that a field is, one within another: each has it alone then.
+pub fn printed_elements_are_made()
+    ensures { PrintedElementsAreMade }
+{
+    printed_values_are_read();
+    floats_are_read_back();
+}
+
 /// So a message that `capnp_value_texts::value::read_root` makes of what is printed of a whole record has that record, and that
 /// text is refused for the want of memory alone, or because a list has no room in the format.
 pub fn printed_roots_are_read()
@@ -53,6 +61,14 @@ pub fn printed_roots_are_read()
 /// The same of `read_field` and a field's value.
 pub fn printed_fields_are_read()
     ensures { PrintedFieldsAreRead }
+{
+    printed_values_are_read();
+    floats_are_read_back();
+}
+
+/// The same of `read_element` and an element.
+pub fn printed_elements_are_read()
+    ensures { PrintedElementsAreRead }
 {
     printed_values_are_read();
     floats_are_read_back();

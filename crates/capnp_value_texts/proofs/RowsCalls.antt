@@ -1,10 +1,10 @@
 -- Worked rows: the calls by which texts make roots and values, and the places of what has none.
 use Rattle.std.proofs.Common.{◌≡◌, ℕ, true, false, List, [], ◌∷◌, Ok, refl, codes, map}
 use Rattle.std.specs.Char.{encode_utf8}
-use Rattle.capnp_schema.specs.Schema.{Schemas, Node, Brand, Field, FieldKind, Slot, Group, VoidValue, UIntValue, TextValue, StructValue, ListValue, no_types}
+use Rattle.capnp_schema.specs.Schema.{Schemas, Node, Brand, Field, FieldKind, Slot, Group, VoidValue, UIntValue, TextValue, StructValue, ListValue, field_at, no_types}
 use Rattle.capnp_schema.specs.Types.{SchemaType, VoidType, UIntType, TextType, StructType, ListType, AnyPointerType}
 use Rattle.capnp_records.specs.Call.{Call, ElementAt, FieldNumber, Init, Initn, Op, PathStep, Set, TextSource, UIntSource, VoidSource}
-use Rattle.capnp_value_texts.specs.Calls.{root_of_text}
+use Rattle.capnp_value_texts.specs.Calls.{element_of_text, root_of_text}
 use Rattle.capnp_value_texts.specs.Errors.{Read, refused}
 use Rattle.capnp_value_texts.specs.Written.{parts_within, written_within}
 use Rattle.capnp_value_texts.specs.declared.error.RefusalKind.TheVariants.{CannotStand, GivenTwice, NameUnknown}
@@ -99,3 +99,10 @@ refused_there : map root (codes "(b = 1)" ∷ codes "(a = 1, a = 2)" ∷ codes "
     ∷ refused CannotStand 20 ∷ refused CannotStand 5 ∷ refused CannotStand 10 ∷ refused CannotStand 10 ∷ refused CannotStand 0 ∷ refused CannotStand 1 ∷ refused CannotStand 6 ∷ []
 unfolding root_of_text written_within parts_within
 refused_there = refl
+
+-- an element of the lists of numbers is the one of a list, and a number the one of a list in it; a place is the text's own
+in_lists : map (λ depth. element_of_text set (field_at set 0 3) 3 depth (codes " [1, 2]")) (0 ∷ 1 ∷ 2 ∷ [])
+    ≡ refused CannotStand 2 ∷ Ok (call [] (FieldNumber 3) (Initn 1) ∷ call (FieldNumber 3 ∷ []) (ElementAt 0) (Initn 2)
+    ∷ call (FieldNumber 3 ∷ ElementAt 0 ∷ []) (ElementAt 0) (byte 1) ∷ call (FieldNumber 3 ∷ ElementAt 0 ∷ []) (ElementAt 1) (byte 2) ∷ []) ∷ refused CannotStand 1 ∷ []
+unfolding element_of_text written_within parts_within
+in_lists = refl

@@ -3,7 +3,7 @@ use Rattle.std.proofs.Common.{◌≡◌, ℕ, List, Ok, Err, refl, ap, subst, sy
 use Rattle.capnp_schema.specs.Schema.{Schemas, TypedField}
 use Rattle.capnp_schema.specs.declared.schema.structs.StructSchema.{StructSchema}
 use Rattle.capnp_records.specs.Call.{Call}
-use Rattle.capnp_value_texts.specs.Calls.{field_of_text, field_target, root_calls, root_of_text, value_calls}
+use Rattle.capnp_value_texts.specs.Calls.{alone_within, element_of_text, field_of_text, field_target, root_calls, root_of_text, value_calls}
 use Rattle.capnp_value_texts.specs.Errors.{IsErrorOf, Read, read_then}
 use Rattle.capnp_value_texts.specs.Values.{IsNotMadeOf}
 use Rattle.capnp_value_texts.specs.Written.{Written, written}
@@ -11,7 +11,7 @@ use Rattle.capnp_value_texts.specs.declared.error.Error.{Error}
 use Rattle.capnp_value_texts.specs.declared.error.Error.TheVariants.{NotMade, OutOfMemory, Refused}
 use Rattle.capnp_value_texts.proofs.Refusals.{error_same, error_then}
 
-no_memory : (schema : StructSchema) (q : Read (List Call)) → IsNotMadeOf schema q OutOfMemory
+pub no_memory : (schema : StructSchema) (q : Read (List Call)) → IsNotMadeOf schema q OutOfMemory
 no_memory schema (Ok calls) = tt
 no_memory schema (Err x) = tt
 
@@ -32,21 +32,29 @@ module _ (schema : StructSchema) (text : List ℕ) (calls : Written → Read (Li
   not_made : (v : Written) (e : Error) → written text ≡ Ok v → IsErrorOf (calls v) e → IsNotMadeOf schema q e
   not_made v e read h = not_called schema q e (error_same q (calls v) e (calls_are v read) h)
 
--- ---- fields ----
+-- ---- elements of fields ----
 
-module _ (schema : StructSchema) (set : Schemas) (f : TypedField) (i : ℕ) (text : List ℕ) where
-  by_field : field_of_text set f i text ≡ read_then (written text) (λ v. value_calls set v (field_target f i))
-  unfolding field_of_text
-  by_field = refl
+module _ (schema : StructSchema) (set : Schemas) (f : TypedField) (i depth : ℕ) (text : List ℕ) where
+  abbrev calls_of : Written → Read (List Call)
+  calls_of v = value_calls set (alone_within depth v) (field_target f i)
 
-  pub field_calls_are : (v : Written) → written text ≡ Ok v → field_of_text set f i text ≡ value_calls set v (field_target f i)
-  field_calls_are = calls_are schema text (λ v. value_calls set v (field_target f i)) (field_of_text set f i text) by_field
+  by_element : element_of_text set f i depth text ≡ read_then (written text) calls_of
+  unfolding element_of_text
+  by_element = refl
 
-  pub field_not_read : (e : Error) → IsErrorOf (written text) e → IsNotMadeOf schema (field_of_text set f i text) e
-  field_not_read = not_read schema text (λ v. value_calls set v (field_target f i)) (field_of_text set f i text) by_field
+  pub element_calls_are : (v : Written) → written text ≡ Ok v → element_of_text set f i depth text ≡ calls_of v
+  element_calls_are = calls_are schema text calls_of (element_of_text set f i depth text) by_element
 
-  pub field_not_made : (v : Written) (e : Error) → written text ≡ Ok v → IsErrorOf (value_calls set v (field_target f i)) e → IsNotMadeOf schema (field_of_text set f i text) e
-  field_not_made = not_made schema text (λ v. value_calls set v (field_target f i)) (field_of_text set f i text) by_field
+  pub element_not_read : (e : Error) → IsErrorOf (written text) e → IsNotMadeOf schema (element_of_text set f i depth text) e
+  element_not_read = not_read schema text calls_of (element_of_text set f i depth text) by_element
+
+  pub element_not_made : (v : Written) (e : Error) → written text ≡ Ok v → IsErrorOf (calls_of v) e → IsNotMadeOf schema (element_of_text set f i depth text) e
+  element_not_made = not_made schema text calls_of (element_of_text set f i depth text) by_element
+
+-- in no lists it is the field's value
+pub no_depth : (set : Schemas) (f : TypedField) (i : ℕ) (text : List ℕ) → element_of_text set f i 0 text ≡ field_of_text set f i text
+unfolding element_of_text field_of_text
+no_depth set f i text = refl
 
 -- ---- roots ----
 

@@ -1,5 +1,5 @@
 -- The calls by which a text makes a value of a type, from where the value stands on.
-use Rattle.std.specs.Prelude.{ℕ, suc, ◌+◌, List, [], ◌∷◌, ◌++◌, map, Bool, true, false, cond, ◌==◌, ◌||◌, min, nat_lt, pos, Option, Some, None, Ok, Err}
+use Rattle.std.specs.Prelude.{ℕ, zero, suc, ◌+◌, List, [], ◌∷◌, ◌++◌, map, Bool, true, false, cond, ◌==◌, ◌||◌, min, nat_lt, pos, Option, Some, None, Ok, Err}
 use Rattle.capnp_schema.specs.Query.{field_named, records_of}
 use Rattle.capnp_schema.specs.Schema.{Schemas, TypedField, field_at, is_member}
 use Rattle.capnp_schema.specs.Types.{SchemaType, VoidType, BoolType, IntType, UIntType, EnumType, TextType, DataType, StructType, ListType}
@@ -157,11 +157,36 @@ root_calls set b (Leaf place bs) = refused CannotStand place
 root_calls set b (Fields place ps) = counted place (part_count ps) (parts_calls set ps (InStruct b) 0 [])
 root_calls set b (Items place ps) = refused CannotStand place
 
+-- ---- elements of lists ----
+
+abbrev pub place_written : Written → ℕ
+place_written (Leaf place bs) = place
+place_written (Fields place ps) = place
+place_written (Items place ps) = place
+
+-- a list with one item
+abbrev pub alone : Written → Written
+alone v = Items (place_written v) (Part (place_written v) [] v NoPart)
+
+-- so many lists, one within another, of which the innermost has this item
+abbrev pub alone_within : (depth : ℕ) → Written → Written
+alone_within zero v = v
+alone_within (suc n) v = alone (alone_within n v)
+
+-- the type of so many lists, one within another, of which the innermost has items of a type
+abbrev pub lists_of : (depth : ℕ) → SchemaType → SchemaType
+lists_of zero t = t
+lists_of (suc n) t = ListType (lists_of n t)
+
 -- ---- texts ----
 
 -- the calls by which a text makes the value of a field of a struct, and those by which it makes a root
 unfoldable pub field_of_text : Schemas → TypedField → (index : ℕ) → (text : List ℕ) → Read (List Call)
 field_of_text set f i text = read_then (written text) (λ v. value_calls set v (field_target f i))
+
+-- those by which it makes an element of the lists that a field is, one within another, each of which has it alone
+unfoldable pub element_of_text : Schemas → TypedField → (index depth : ℕ) → (text : List ℕ) → Read (List Call)
+element_of_text set f i depth text = read_then (written text) (λ v. value_calls set (alone_within depth v) (field_target f i))
 
 unfoldable pub root_of_text : Schemas → (brand : ℕ) → (text : List ℕ) → Read (List Call)
 root_of_text set b text = read_then (written text) (root_calls set b)

@@ -8,10 +8,11 @@ ghost use Rattle.capnp_schema.specs.StructHandles.{IsStruct, number_of, set_of};
 ghost use Rattle.capnp_call.specs.Messages.{most_words};
 ghost use Rattle.capnp_call.specs.Seen.{reply_seen};
 ghost use Rattle.capnp_slots.specs.Fields.{field_set};
-ghost use Rattle.capnp_value_texts.specs.Calls.{field_of_text, root_of_text};
+ghost use Rattle.capnp_value_texts.specs.Calls.{element_of_text, field_of_text, root_of_text};
 ghost use Rattle.capnp_value_texts.specs.Made.{calls_made};
 ghost use Rattle.capnp_value_texts.specs.Values.{IsLeftBy, IsMadeOf, IsNotMade, IsNotMadeOf, first_refusal, refusal_in};
 
+use crate::alone::put_within;
 use crate::calls::{field_calls, root_calls};
 use crate::error::Error;
 use crate::made::{Made, as_calls};
@@ -96,11 +97,41 @@ pub fn read_field(
     ensures refused { IfErr result (IsNotMadeOf (field_schema field.entry) (field_of_text (field_set field.entry)
         (typed_of field.entry) (index_of field.entry) text.now)) }
 {
+    read_element(alloc, limit, field, 0, text)
+}
+
+/// Reads a text as an element of the lists that a field is, so many of them one within another, into a new message with a
+/// limit: as `read_field`, but each of these lists has one element, and that of the innermost is the value. At depth 0 it is
+/// the field's own.
+///
+/// Refused as `read_field`, and with `CannotStand` at the text's first byte where the field has not so many lists.
+///
+/// # Conditions
+///
+/// The field's schema is one of an accepted set (`IsStruct`).
+pub fn read_element(
+    alloc: Global,
+    limit: usize,
+    field: Field<'_>,
+    depth: usize,
+    text: &[u8],
+) -> Result<Builder, Error>
+    ensures message { IfOk result IsMessage }
+    ensures made { IfOk result (λ m. IsMadeOf (field_schema field.entry) (element_of_text (field_set field.entry)
+        (typed_of field.entry) (index_of field.entry) depth text.now) (message_tree m)) }
+    ensures within { IfOk result (λ m. word_count (segment m) ≤ most_words limit) }
+    ensures refused { IfErr result (IsNotMadeOf (field_schema field.entry) (element_of_text (field_set field.entry)
+        (typed_of field.entry) (index_of field.entry) depth text.now)) }
+{
     let shown = match read_shown(alloc, text) {
         Ok(shown) => shown,
         Err(error) => return Err(error),
     };
-    let made = match field_calls(alloc, field, &shown) {
+    let held = match put_within(alloc, depth, shown) {
+        Ok(held) => held,
+        Err(error) => return Err(error),
+    };
+    let made = match field_calls(alloc, field, &held) {
         Ok(made) => made,
         Err(error) => return Err(error),
     };

@@ -1,6 +1,7 @@
 //! Lists that words edit, parts that they copy, and structs and lists that they give as JSON texts or as they are printed. A
 //! row is as those of `rows.rt`; the messages are the public tool's.
-use crate::tests::rows_are_so;
+use crate::tests::{Setting, answered, comes_to, rows_are_so, run_on, tells};
+use capnp_fixtures::bytes::bytes_of;
 use std::test::Fail;
 
 /// Edits and copies on messages and on empty roots.
@@ -269,4 +270,70 @@ const SHOWN: &str = "\
 #[test]
 fn structs_and_lists_are_given_as_printed(rt: HostRuntime) -> Result<(), Fail> {
     rows_are_so(&rt, rt.alloc(), SHOWN)
+}
+
+/// A set of `Rows`, whose field `rows` is a list of lists of structs with a number `a`, by the public tool.
+const ROWS: &str = "\
+000000003e000000 0000000000000300 0900000067000000 9d00000047000000 e500000007000000 0800000003000300 \
+edc2e5b4b68f56f0 0000010000000000 0000000000000000 210000002a000000 2100000007000000 2100000027000000 \
+c25751014ddd349e 0100000000000000 0000000000000000 3d00000022000000 3d00000007000000 3d00000027000000 \
+526f777300000000 0000000001000100 0400000001000300 0000000000000000 090000002a000000 0900000007000000 \
+0800000002000100 726f777300000000 0000000001000100 0e00000000000000 0000000000000000 0100000042000000 \
+0000000000000000 526f770000000000 0000000001000100 0400000001000300 0000000000000000 0900000012000000 \
+0900000007000000 0800000002000100 6100000000000000 0000000001000100 0700000000000000 0000000000000000 \
+0000000000000000 0800000001000300 0000000000000000 190000000f000000 1d00000007000000 1d0000000e000000 \
+0100000000000000 1d0000000f000000 2100000007000000 210000000e000000 0400000001000000 1000020001000000 \
+0000000001000000 0100000007000000 0000000001000000 0400000001000000 0700000000000000 0000000001000000 \
+0100000007000000 0000000001000000 0000000001000500";
+
+/// Lists in that list as they are printed, and the message that the public tool makes of both.
+const TWO_ROWS: &str =
+    "new|--set|set|Rows|initn rows 2|set rows.0 [(a = 1), ()]|set rows.1 [ (a=3) ]|get rows.0.0.a";
+
+const TWO_ROWS_MADE: &str = "\
+0000000009000000 0000000000000100 0100000016000000 0500000017000000 0d0000000f000000 0800000001000000 \
+0100000000000000 0000000000000000 0400000001000000 0300000000000000";
+
+/// Words under that set, whether the message is unread, the status, and what is told.
+static ROWS_TOLD: [(&str, &str); 5] = [
+    (
+        "new|--set|set|Rows|append rows [(a = 1)]|insert rows.0 [(a = 9), ()]|get rows.0.0.a|get rows.1.0.a|get rows.2",
+        "false 1 3: get rows.0.0.a = 9\n4: get rows.1.0.a = 1\n5: get rows.2: refused: 32 NoSuchElement\n|",
+    ),
+    (
+        "new|--set|set|Rows|append rows [(a = 1), (b = 2)]",
+        "false 2 1: append rows [(a = 1), (b = 2)]: can't be read at 23; wanted: [value, ..] or a JSON array\n|",
+    ),
+    (
+        "new|--set|set|Rows|set rows.0 [(a = 65536)]",
+        "false 2 1: set rows.0 [(a = 65536)]: can't be read at 21; wanted: [value, ..] or a JSON array\n|",
+    ),
+    (
+        "new|--set|set|Rows|set rows.0 (a = 1)",
+        "false 2 1: set rows.0 (a = 1): can't be read at 11; wanted: [value, ..] or a JSON array\n|",
+    ),
+    (
+        "new|--set|set|Rows|set rows.0 [[(a = 1)]]",
+        "false 2 1: set rows.0 [[(a = 1)]]: can't be read at 13; wanted: [value, ..] or a JSON array\n|",
+    ),
+];
+
+#[test]
+fn lists_in_lists_are_given_as_printed(rt: HostRuntime) -> Result<(), Fail> {
+    let set = bytes_of(rt.alloc(), ROWS)?;
+    let written = bytes_of(rt.alloc(), TWO_ROWS_MADE)?;
+    let setting = Setting {
+        set: &set,
+        ..run_on(TWO_ROWS, &[], true)
+    };
+    let wanted = answered(rt.alloc(), false, 0, &written, b"4: get rows.0.0.a = 1\n")?;
+    comes_to(&rt, rt.alloc(), &setting, &wanted)?;
+    for (words, wanted) in &ROWS_TOLD {
+        let setting = Setting {
+            set: &set,
+            ..run_on(words, &[], false)
+        };
+        tells(&rt, rt.alloc(), &setting, wanted)?;
+    }
+    Ok(())
 }

@@ -1,5 +1,5 @@
--- A step leads to the type of the field that it names, and at the end of a path that is the last one's.
-use Rattle.std.proofs.Common.{ℕ, ◌∷◌, ◌≤◌, ◌≡◌, ◌∙◌, Bool, true, false, IfSome, List, Option, None, Some, cond, length, nat_lt, arith, ap, refl, sym}
+-- A step leads to the type of the field that it names or of an element there, and so to a spot of that type.
+use Rattle.std.proofs.Common.{ℕ, ◌∷◌, ◌≤◌, ◌≡◌, ◌∙◌, Bool, true, false, IfSome, List, Option, None, Some, cond, length, nat_lt, arith, ap, refl, subst, suc, sym}
 use Rattle.std.proofs.lemmas.Bool.Decides.{nat_tests}
 use Rattle.std.proofs.lemmas.Option.{slice_get_past}
 use Rattle.std.specs.Option.{option_and_then, option_map}
@@ -8,13 +8,18 @@ use Rattle.capnp_schema.specs.FieldLists.{IsFound, index_of, typed_of}
 use Rattle.capnp_schema.specs.GroupsDown.{place_of_field}
 use Rattle.capnp_schema.specs.Schema.{Schemas, TypedField, field_at, fields_of, no_field}
 use Rattle.capnp_schema.specs.StructHandles.{number_of, set_of, struct_field}
-use Rattle.capnp_schema.specs.Types.{SchemaType, StructType}
+use Rattle.capnp_schema.specs.Types.{ListType, SchemaType, StructType}
 use Rattle.capnp_schema.specs.declared.schema.fields.Field.{Field}
 use Rattle.capnp_schema.specs.declared.schema.structs.StructSchema.{StructSchema}
 use Rattle.capnp_records.specs.Call.{ElementAt, FieldNamed, FieldNumber, PathStep}
 use Rattle.capnp_slots.specs.Fields.{field_set}
 use Rattle.capnp_words.specs.Targets.{field_type, type_along, type_behind}
-use Rattle.riftcalico_core.specs.LastFields.{index_at, last_place, place_behind}
+use Rattle.capnp_value_texts.specs.Calls.{lists_of}
+use Rattle.riftcalico_core.specs.LastFields.{Spot, field_spot, index_at, last_spot, spot_behind}
+use Rattle.riftcalico_core.specs.SpotsSeen.{IsSpotOf}
+use Rattle.riftcalico_core.specs.Steps.Spots.{IsSpotAt}
+use Rattle.riftcalico_core.specs.declared.last_field.Spot.{Spot as SpotHeld}
+use Rattle.riftcalico_core.proofs.ShownTaken.{lists_more}
 
 module _ (s : StructSchema) (g : ℕ) where
   abbrev type_at : Option ℕ → Option SchemaType
@@ -48,10 +53,10 @@ module _ (s : StructSchema) (g : ℕ) where
   found_none None found = refl
   found_none (Some i) found = absurd found
 
-  found_placed : (o : Option ℕ) (f : Field) → IsFound s o (Some f) → Some (place_of_field f) ≡ option_map (λ (i : ℕ). (number_of s, i)) o
-  found_placed None f found = absurd found
-  found_placed (Some i) f found =
-      ap (λ (r : StructSchema). Some (number_of r, index_of f)) found.schema ∙ ap (λ (k : ℕ). Some (number_of s, k)) found.index
+  found_spot : (o : Option ℕ) (f : Field) → IsFound s o (Some f) → Some (field_spot (place_of_field f)) ≡ option_map (λ (i : ℕ). field_spot (number_of s, i)) o
+  found_spot None f found = absurd found
+  found_spot (Some i) f found =
+      ap (λ (r : StructSchema). Some (field_spot (number_of r, index_of f))) found.schema ∙ ap (λ (k : ℕ). Some (field_spot (number_of s, k))) found.index
 
   pub reached_none : (step : PathStep) → IsFound s (index_at (set_of s) (number_of s) step) None → None ≡ type_behind (set_of s) (StructType (number_of s) g) step
   reached_none step found = sym (led step ∙ found_none (index_at (set_of s) (number_of s) step) found)
@@ -59,8 +64,8 @@ module _ (s : StructSchema) (g : ℕ) where
   pub reached_typed : (step : PathStep) (f : Field) → IsFound s (index_at (set_of s) (number_of s) step) (Some f) → Some (typed_of f).type ≡ type_behind (set_of s) (StructType (number_of s) g) step
   reached_typed step f found = found_typed (index_at (set_of s) (number_of s) step) f found ∙ sym (led step)
 
-  pub reached_placed : (step : PathStep) (f : Field) → IsFound s (index_at (set_of s) (number_of s) step) (Some f) → Some (place_of_field f) ≡ place_behind (set_of s) (StructType (number_of s) g) step
-  reached_placed step f found = found_placed (index_at (set_of s) (number_of s) step) f found
+  pub reached_spot : (o : Option Spot) (step : PathStep) (f : Field) → IsFound s (index_at (set_of s) (number_of s) step) (Some f) → Some (field_spot (place_of_field f)) ≡ spot_behind (set_of s) o (StructType (number_of s) g) step
+  reached_spot o step f found = found_spot (index_at (set_of s) (number_of s) step) f found
 
   pub reached_set : (step : PathStep) (f : Field) → IsFound s (index_at (set_of s) (number_of s) step) (Some f) → field_set f ≡ set_of s
   reached_set step f found = of_schema (index_at (set_of s) (number_of s) step) found
@@ -70,18 +75,23 @@ module _ (s : StructSchema) (g : ℕ) where
       of_schema (Some i) h = ap set_of h.schema
 
 -- one step of a path goes on from where it leads, or nothing is there
-pub goes_on : (set : Schemas) (o q : Option (ℕ × ℕ)) (t u : SchemaType) (step : PathStep) (steps : List PathStep) → Some u ≡ type_behind set t step → q ≡ place_behind set t step
-    → last_place set q u steps ≡ last_place set o t (step ∷ steps)
-goes_on set o q t u step steps led placed =
-    ap (λ (p : Option (ℕ × ℕ)). last_place set p u steps) placed ∙ ap (option_and_then (λ (v : SchemaType). last_place set (place_behind set t step) v steps)) led
+pub goes_on : (set : Schemas) (o q : Option Spot) (t u : SchemaType) (step : PathStep) (steps : List PathStep) → Some u ≡ type_behind set t step → q ≡ spot_behind set o t step
+    → last_spot set q u steps ≡ last_spot set o t (step ∷ steps)
+goes_on set o q t u step steps led spot =
+    ap (λ (p : Option Spot). last_spot set p u steps) spot ∙ ap (option_and_then (λ (v : SchemaType). last_spot set (spot_behind set o t step) v steps)) led
 
 pub goes_typed : (set : Schemas) (t u : SchemaType) (step : PathStep) (steps : List PathStep) → Some u ≡ type_behind set t step → type_along set u steps ≡ type_along set t (step ∷ steps)
 goes_typed set t u step steps led = ap (option_and_then (λ (v : SchemaType). type_along set v steps)) led
 
-pub stops : (set : Schemas) (o : Option (ℕ × ℕ)) (t : SchemaType) (step : PathStep) (steps : List PathStep) → None ≡ type_behind set t step → None ≡ last_place set o t (step ∷ steps)
-stops set o t step steps led = ap (option_and_then (λ (v : SchemaType). last_place set (place_behind set t step) v steps)) led
+pub stops : (set : Schemas) (o : Option Spot) (t : SchemaType) (step : PathStep) (steps : List PathStep) → None ≡ type_behind set t step → None ≡ last_spot set o t (step ∷ steps)
+stops set o t step steps led = ap (option_and_then (λ (v : SchemaType). last_spot set (spot_behind set o t step) v steps)) led
 
--- at the end of a path is the type of the field that was named last
-pub last_typed : (set : Schemas) (o : Option Field) (t : SchemaType) (u : Option SchemaType) → Some t ≡ u → IfSome o (λ f. (field_set f ≡ set) × ((typed_of f).type ≡ t)) → IfSome o (λ f. (field_set f ≡ set) × (u ≡ Some (typed_of f).type))
-last_typed set None t u end named = tt
-last_typed set (Some f) t u end named = (named.0, sym end ∙ ap Some (sym named.1))
+-- at the end of a path is the type of the spot there
+pub last_typed : (set : Schemas) (o : Option SpotHeld) (t : SchemaType) (u : Option SchemaType) → Some t ≡ u → IfSome o (IsSpotOf set t) → IfSome o (IsSpotAt set u)
+last_typed set o t u end there = subst (λ (q : Option SchemaType). IfSome o (IsSpotAt set q)) end there
+
+-- an element of the list at a spot
+pub within_typed : (set : Schemas) (e : SchemaType) (o : Option SpotHeld) (f : Field) (n m : ℕ) → o ≡ Some (record { field = f; depth = n }) → m ≡ suc n → IfSome o (IsSpotOf set (ListType e)) → IsSpotOf set e (record { field = f; depth = m })
+within_typed set e o f n m is more there =
+    let at : IsSpotOf set (ListType e) (record { field = f; depth = n }) = subst (λ (q : Option SpotHeld). IfSome q (IsSpotOf set (ListType e))) is there in
+    (at.0, at.1 ∙ (lists_more n e ∙ ap (λ (k : ℕ). lists_of k e) (sym more)))

@@ -4,6 +4,7 @@ use Rattle.capnp_wire.specs.Depth.{IsShallow}
 use Rattle.capnp_wire.specs.Edits.{struct_in}
 use Rattle.capnp_wire.specs.Place.{struct_tree}
 use Rattle.capnp_wire.specs.Tree.{StructTree, Tree, nth_tree}
+use Rattle.capnp_wire.specs.WellFormed.{IsWellFormed}
 use Rattle.capnp_wire.specs.Words.{first_fault}
 use Rattle.capnp_arena.specs.declared.arena.Arena.{Arena}
 use Rattle.capnp_schema.specs.Accepted.{GroupFits}
@@ -18,18 +19,19 @@ use Rattle.capnp_records.specs.Call.{Call, ListSource, Source, StructSource}
 use Rattle.capnp_records.specs.Record.{Left}
 use Rattle.capnp_records.specs.Writes.TreeEnds.{offset_of}
 use Rattle.capnp_slots.specs.Fields.{field_set}
-use Rattle.capnp_value_texts.specs.Calls.{field_of_text, root_of_text}
+use Rattle.capnp_value_texts.specs.Calls.{element_of_text, lists_of, root_of_text}
 use Rattle.capnp_value_texts.specs.Errors as text
 use Rattle.capnp_value_texts.specs.Values.{IsMadeOf, IsNotMadeOf}
 use Rattle.capnp_value_texts.specs.declared.error.Error.{Error as TextError}
 use Rattle.capnp_value_texts.specs.declared.error.Error.TheVariants.{NotMade, OutOfMemory, Refused}
 use Rattle.capnp_value_texts.specs.declared.error.Refusal.{Refusal}
 use Rattle.riftcalico_core.specs.JsonValues.{begin}
-use Rattle.riftcalico_core.specs.ShownSeen.{part_source, shown_source}
+use Rattle.riftcalico_core.specs.LastFields.{Spot}
+use Rattle.riftcalico_core.specs.ShownSeen.{part_source, shown_source, tree_down}
 use Rattle.riftcalico_core.specs.declared.shown_values.Part.{Part}
 use Rattle.riftcalico_core.specs.ShownValues.{IsSchemaOf, IsShownRead, IsUnmade, Making, not_made, refused, too_deep}
 use Rattle.riftcalico_core.specs.Steps.ShownValues.{IsPlaceOf}
-use Rattle.riftcalico_core.proofs.ShownTaken.{list_taken, root_below, root_sound, struct_taken}
+use Rattle.riftcalico_core.proofs.ShownTaken.{list_taken, root_below, root_formed, root_sound, struct_taken}
 
 -- ---- what is read ----
 
@@ -37,15 +39,19 @@ pub made_root : (schema : StructSchema) (calls : text.Read (List Call)) (x : Tre
 made_root schema (Ok calls) x made = made.root
 made_root schema (Err r) x made = absurd made
 
-module _ (schema : StructSchema) (field : Option (ℕ × ℕ)) (g : ℕ) (bytes : List ℕ) where
+made_formed : (schema : StructSchema) (calls : text.Read (List Call)) (x : Tree) → IsMadeOf schema calls x → IsWellFormed x
+made_formed schema (Ok calls) x made = made.formed
+made_formed schema (Err r) x made = absurd made
+
+module _ (schema : StructSchema) (spot : Option Spot) (g : ℕ) (bytes : List ℕ) where
   abbrev struct_making : Making
   struct_making = record { brand = number_of schema; calls = root_of_text (set_of schema) (number_of schema) bytes }
 
   pub struct_read : (x : Tree) → IsMadeOf schema (root_of_text (set_of schema) (number_of schema) bytes) x → first_fault x ≡ None → IsShallow x →
-      (s : Source) → s ≡ StructSource (Left 63) (struct_in x) (number_of schema) → IsShownRead (set_of schema) field (StructType (number_of schema) g) bytes s
+      (s : Source) → s ≡ StructSource (Left 63) (struct_in x) (number_of schema) → IsShownRead (set_of schema) spot (StructType (number_of schema) g) bytes s
   struct_read x made sound shallow s is =
       let root = made_root schema (root_of_text (set_of schema) (number_of schema) bytes) x made in
-      subst (IsShownRead (set_of schema) field (StructType (number_of schema) g) bytes) (sym is) (record {
+      subst (IsShownRead (set_of schema) spot (StructType (number_of schema) g) bytes) (sym is) (record {
         making = struct_making;
         asked = refl;
         schema = schema;
@@ -55,22 +61,25 @@ module _ (schema : StructSchema) (field : Option (ℕ × ℕ)) (g : ℕ) (bytes 
         taken = struct_taken (set_of schema) (number_of schema) g (struct_in x) (root_sound x root sound) (root_below x root shallow);
       })
 
-module _ (f : Field) (e : SchemaType) (bytes : List ℕ) where
-  abbrev list_making : Making
-  list_making = record { brand = number_of (field_schema f); calls = field_of_text (field_set f) (typed_of f) (index_of f) bytes }
+module _ (f : Field) (n : ℕ) (e : SchemaType) (bytes : List ℕ) where
+  abbrev calls_there : text.Read (List Call)
+  calls_there = element_of_text (field_set f) (typed_of f) (index_of f) n bytes
 
-  pub list_read : (typed_of f).type ≡ ListType e → GroupFits (field_set f) (typed_of f).field.kind (typed_of f).type → (x : Tree) → IsMadeOf (field_schema f) (field_of_text (field_set f) (typed_of f) (index_of f) bytes) x →
-      first_fault x ≡ None → (s : Source) → s ≡ ListSource (Left 62) (nth_tree (struct_in x).pointers (offset_of (typed_of f).field.kind)) e → IsShownRead (field_set f) (Some (place_of_field f)) (ListType e) bytes s
+  abbrev list_making : Making
+  list_making = record { brand = number_of (field_schema f); calls = calls_there }
+
+  pub list_read : (typed_of f).type ≡ lists_of n (ListType e) → GroupFits (field_set f) (typed_of f).field.kind (typed_of f).type → (x : Tree) → IsMadeOf (field_schema f) calls_there x → first_fault x ≡ None →
+      (s : Source) → s ≡ ListSource (Left 62) (tree_down n (nth_tree (struct_in x).pointers (offset_of (typed_of f).field.kind))) e → IsShownRead (field_set f) (Some (record { place = place_of_field f; depth = n })) (ListType e) bytes s
   list_read typed fits x made sound s is =
-      let root = made_root (field_schema f) (field_of_text (field_set f) (typed_of f) (index_of f) bytes) x made in
-      subst (IsShownRead (field_set f) (Some (place_of_field f)) (ListType e) bytes) (sym is) (record {
+      let root = made_root (field_schema f) calls_there x made in
+      subst (IsShownRead (field_set f) (Some (record { place = place_of_field f; depth = n })) (ListType e) bytes) (sym is) (record {
         making = list_making;
         asked = refl;
         schema = field_schema f;
         of = record { same_set = refl; same_number = refl };
         root = x;
         made = made;
-        taken = list_taken (field_set f) (struct_in x) (typed_of f) e typed fits (root_sound x root sound);
+        taken = list_taken (field_set f) (struct_in x) (typed_of f) n e typed fits (root_sound x root sound) (root_formed x root (made_formed (field_schema f) calls_there x made));
       })
 
 -- ---- where nothing is ----
@@ -90,18 +99,18 @@ module _ (set : Schemas) (m : Making) (bytes : List ℕ) (schema : StructSchema)
 
 -- ---- what is kept of a root, or where it is too deep ----
 
-pub struct_if : {W : Type 0} (shown : W → Source) (kept : Result W ℕ) (schema : StructSchema) (field : Option (ℕ × ℕ)) (g : ℕ) (bytes : List ℕ) (x : Tree) → IsMadeOf schema (root_of_text (set_of schema) (number_of schema) bytes) x →
+pub struct_if : {W : Type 0} (shown : W → Source) (kept : Result W ℕ) (schema : StructSchema) (spot : Option Spot) (g : ℕ) (bytes : List ℕ) (x : Tree) → IsMadeOf schema (root_of_text (set_of schema) (number_of schema) bytes) x →
     IfOk kept (λ w. shown w ≡ StructSource (Left 63) (struct_in x) (number_of schema)) → IfOk kept (λ w. IsShallow x) → IfOk kept (λ w. first_fault x ≡ None) →
-    IfOk kept (λ w. IsShownRead (set_of schema) field (StructType (number_of schema) g) bytes (shown w))
-struct_if shown (Ok w) schema field g bytes x made source shallow sound = struct_read schema field g bytes x made sound shallow (shown w) source
-struct_if shown (Err at) schema field g bytes x made source shallow sound = tt {0}
+    IfOk kept (λ w. IsShownRead (set_of schema) spot (StructType (number_of schema) g) bytes (shown w))
+struct_if shown (Ok w) schema spot g bytes x made source shallow sound = struct_read schema spot g bytes x made sound shallow (shown w) source
+struct_if shown (Err at) schema spot g bytes x made source shallow sound = tt {0}
 
-pub list_if : {W : Type 0} (shown : W → Source) (kept : Result W ℕ) (f : Field) (e : SchemaType) (bytes : List ℕ) (x : Tree) → (typed_of f).type ≡ ListType e → GroupFits (field_set f) (typed_of f).field.kind (typed_of f).type →
-    IsMadeOf (field_schema f) (field_of_text (field_set f) (typed_of f) (index_of f) bytes) x →
-    IfOk kept (λ w. shown w ≡ ListSource (Left 62) (nth_tree (struct_in x).pointers (offset_of (typed_of f).field.kind)) e) → IfOk kept (λ w. first_fault x ≡ None) →
-    IfOk kept (λ w. IsShownRead (field_set f) (Some (place_of_field f)) (ListType e) bytes (shown w))
-list_if shown (Ok w) f e bytes x typed fits made source sound = list_read f e bytes typed fits x made sound (shown w) source
-list_if shown (Err at) f e bytes x typed fits made source sound = tt {0}
+pub list_if : {W : Type 0} (shown : W → Source) (kept : Result W ℕ) (f : Field) (n : ℕ) (e : SchemaType) (bytes : List ℕ) (x : Tree) → (typed_of f).type ≡ lists_of n (ListType e) → GroupFits (field_set f) (typed_of f).field.kind (typed_of f).type →
+    IsMadeOf (field_schema f) (element_of_text (field_set f) (typed_of f) (index_of f) n bytes) x →
+    IfOk kept (λ w. shown w ≡ ListSource (Left 62) (tree_down n (nth_tree (struct_in x).pointers (offset_of (typed_of f).field.kind))) e) → IfOk kept (λ w. first_fault x ≡ None) →
+    IfOk kept (λ w. IsShownRead (field_set f) (Some (record { place = place_of_field f; depth = n })) (ListType e) bytes (shown w))
+list_if shown (Ok w) f n e bytes x typed fits made source sound = list_read f n e bytes typed fits x made sound (shown w) source
+list_if shown (Err at) f n e bytes x typed fits made source sound = tt {0}
 
 pub deep_if : {W : Type 0} (kept : Result W ℕ) (set : Schemas) (m : Making) (bytes : List ℕ) (schema : StructSchema) → IsSchemaOf set m.brand schema → (x : Tree) (first : ℕ) → first ≡ begin bytes → IsMadeOf schema m.calls x →
     IfErr kept (λ at. at ≡ first) → IfErr kept (λ at. IsShallow x → ⊥) → IfErr kept (IsUnmade set m bytes)

@@ -1,6 +1,6 @@
 -- The calls and edits that words stand for, under a struct of a set.
 use Rattle.std.specs.Prelude.{ℕ, ◌+◌, ◌≡◌, List, [], ◌∷◌, Bool, true, false, Option, Some, None, Ok, Err, pos}
-use Rattle.std.specs.Option.{option_and_then}
+use Rattle.std.specs.Option.{option_and_then, option_map}
 use Rattle.capnp_schema.specs.Schema.{Schemas}
 use Rattle.capnp_schema.specs.Types.{BoolType, DataType, EnumType, IntType, ListType, SchemaType, TextType, UIntType}
 use Rattle.capnp_records.specs.Call as call
@@ -17,7 +17,7 @@ use Rattle.capnp_words.specs.Reads.{Read, read_as}
 use Rattle.capnp_words.specs.Targets.{type_along}
 use Rattle.capnp_words.specs.Marked.{marked_value_by_word}
 use Rattle.capnp_json_messages.specs.Ones.{is_whole}
-use Rattle.riftcalico_core.specs.LastFields.{field_along}
+use Rattle.riftcalico_core.specs.LastFields.{Spot, spot_along, spot_within}
 use Rattle.riftcalico_core.specs.ShownValues.{IsGivenBy, shown_fault}
 
 -- what is given to a set, by the type of what is set
@@ -54,35 +54,37 @@ given_type op t = t
 abbrev pub plain_read : Schemas → (floats : Bool) → SchemaType → (bytes : List ℕ) → (place : ℕ) → Read Source
 plain_read set floats t bytes place = shifted_read place (read_as (source_taken t) (marked_value_by_word set floats t bytes))
 
--- the field that is set; what edits of lists are given is an element
-abbrev pub given_field : CallOp → Option (ℕ × ℕ) → Option (ℕ × ℕ)
-given_field (text.Set bytes place) f = f
-given_field op f = None
+-- where what is given goes: a set to where its path leads, edits of lists to an element there
+abbrev pub given_spot : CallOp → Option Spot → Option Spot
+given_spot (text.Set bytes place) o = o
+given_spot (text.Append bytes place) o = option_map spot_within o
+given_spot (text.Insert i bytes place) o = option_map spot_within o
+given_spot op o = None
 
 -- a value by its type: a struct or a list is given as a JSON text, or as it is printed
-abbrev pub IsValueBy : (whole : Bool) → Schemas → (field : Option (ℕ × ℕ)) → (floats : Bool) → SchemaType → (bytes : List ℕ) → (place : ℕ) → Read Source → Type 0
-IsValueBy true set field floats t bytes place r = IsGivenBy (shown_fault bytes) set field floats t bytes place r
-IsValueBy false set field floats t bytes place r = r ≡ plain_read set floats t bytes place
+abbrev pub IsValueBy : (whole : Bool) → Schemas → (spot : Option Spot) → (floats : Bool) → SchemaType → (bytes : List ℕ) → (place : ℕ) → Read Source → Type 0
+IsValueBy true set spot floats t bytes place r = IsGivenBy (shown_fault bytes) set spot floats t bytes place r
+IsValueBy false set spot floats t bytes place r = r ≡ plain_read set floats t bytes place
 
 -- Where there is no type the call is refused for its path, whatever it is given.
-abbrev pub IsSourceRead : Schemas → (field : Option (ℕ × ℕ)) → (floats : Bool) → Option SchemaType → (bytes : List ℕ) → (place : ℕ) → Read Source → Type 0
-IsSourceRead set field floats None bytes place r = r ≡ Ok VoidSource
-IsSourceRead set field floats (Some t) bytes place r = IsValueBy (is_whole t) set field floats t bytes place r
+abbrev pub IsSourceRead : Schemas → (spot : Option Spot) → (floats : Bool) → Option SchemaType → (bytes : List ℕ) → (place : ℕ) → Read Source → Type 0
+IsSourceRead set spot floats None bytes place r = r ≡ Ok VoidSource
+IsSourceRead set spot floats (Some t) bytes place r = IsValueBy (is_whole t) set spot floats t bytes place r
 
 -- what a call or an edit is given, under the type of its value; of those that have no value nothing, which is a void here
-abbrev pub IsSourceGiven : Schemas → (field : Option (ℕ × ℕ)) → (floats : Bool) → Option SchemaType → CallOp → Read Source → Type 0
-IsSourceGiven set field floats t (text.Set bytes place) r = IsSourceRead set field floats t bytes place r
-IsSourceGiven set field floats t (text.Append bytes place) r = IsSourceRead set field floats t bytes place r
-IsSourceGiven set field floats t (text.Insert i bytes place) r = IsSourceRead set field floats t bytes place r
-IsSourceGiven set field floats t text.Get r = r ≡ Ok VoidSource
-IsSourceGiven set field floats t text.Has r = r ≡ Ok VoidSource
-IsSourceGiven set field floats t text.Which r = r ≡ Ok VoidSource
-IsSourceGiven set field floats t text.Init r = r ≡ Ok VoidSource
-IsSourceGiven set field floats t (text.Initn size) r = r ≡ Ok VoidSource
-IsSourceGiven set field floats t text.Clear r = r ≡ Ok VoidSource
-IsSourceGiven set field floats t (text.Remove i) r = r ≡ Ok VoidSource
-IsSourceGiven set field floats t (text.Resize count) r = r ≡ Ok VoidSource
-IsSourceGiven set field floats t (text.Copy from) r = r ≡ Ok VoidSource
+abbrev pub IsSourceGiven : Schemas → (spot : Option Spot) → (floats : Bool) → Option SchemaType → CallOp → Read Source → Type 0
+IsSourceGiven set spot floats t (text.Set bytes place) r = IsSourceRead set spot floats t bytes place r
+IsSourceGiven set spot floats t (text.Append bytes place) r = IsSourceRead set spot floats t bytes place r
+IsSourceGiven set spot floats t (text.Insert i bytes place) r = IsSourceRead set spot floats t bytes place r
+IsSourceGiven set spot floats t text.Get r = r ≡ Ok VoidSource
+IsSourceGiven set spot floats t text.Has r = r ≡ Ok VoidSource
+IsSourceGiven set spot floats t text.Which r = r ≡ Ok VoidSource
+IsSourceGiven set spot floats t text.Init r = r ≡ Ok VoidSource
+IsSourceGiven set spot floats t (text.Initn size) r = r ≡ Ok VoidSource
+IsSourceGiven set spot floats t text.Clear r = r ≡ Ok VoidSource
+IsSourceGiven set spot floats t (text.Remove i) r = r ≡ Ok VoidSource
+IsSourceGiven set spot floats t (text.Resize count) r = r ≡ Ok VoidSource
+IsSourceGiven set spot floats t (text.Copy from) r = r ≡ Ok VoidSource
 
 -- the path of what is copied; else none
 abbrev pub from_of : CallOp → List PathStep
@@ -123,5 +125,5 @@ act_given c s = act_placed c.path s (from_of c.op) c.op
 -- a call or an edit as it is read, with the type of the root
 pub record IsCallRead (set : Schemas) (root : SchemaType) (c : CallText) (r : Read ActSeen) : Type 0 where
   pub source : Read Source
-  pub given : IsSourceGiven set (given_field c.op (field_along set root c.path)) (floats_along set root c.path) (given_type c.op (type_along set root c.path)) c.op source
+  pub given : IsSourceGiven set (given_spot c.op (spot_along set root c.path)) (floats_along set root c.path) (given_type c.op (type_along set root c.path)) c.op source
   pub act : r ≡ read_as (act_given c) source

@@ -1,5 +1,5 @@
--- The field that the last step of a path names, by a schema alone.
-use Rattle.std.specs.Prelude.{ℕ, List, [], ◌∷◌, cond, length, nat_lt, Option, Some, None}
+-- The field that a path names last, and how many lists the path goes into from there, by a schema alone.
+use Rattle.std.specs.Prelude.{ℕ, suc, List, [], ◌∷◌, cond, length, nat_lt, Option, Some, None}
 use Rattle.std.specs.Option.{option_map, option_and_then}
 use Rattle.capnp_schema.specs.Query.{field_named, records_of}
 use Rattle.capnp_schema.specs.Schema.{Schemas, fields_of}
@@ -7,22 +7,34 @@ use Rattle.capnp_schema.specs.Types.{SchemaType, StructType}
 use Rattle.capnp_records.specs.Call.{ElementAt, FieldNamed, FieldNumber, PathStep}
 use Rattle.capnp_words.specs.Targets.{type_behind}
 
+-- a field by its struct's brand and its index, and how many lists of it, one within another, are gone into
+pub record Spot : Type 0 where
+  pub place : ℕ × ℕ
+  pub depth : ℕ
+
+abbrev pub field_spot : (place : ℕ × ℕ) → Spot
+field_spot p = record { place = p; depth = 0 }
+
+-- an element of the list there
+abbrev pub spot_within : Spot → Spot
+spot_within p = record { place = p.place; depth = suc p.depth }
+
 -- the field of a struct that a step names, by its index
 abbrev pub index_at : Schemas → (brand : ℕ) → PathStep → Option ℕ
 index_at set b (FieldNumber i) = cond (nat_lt i (length (fields_of set b))) (Some i) None
 index_at set b (FieldNamed name) = field_named (records_of set b) name
 index_at set b (ElementAt i) = None
 
--- the same at a type, by the struct's brand and the index; an element is no field
-abbrev pub place_behind : Schemas → SchemaType → PathStep → Option (ℕ × ℕ)
-place_behind set (StructType b g) s = option_map (λ (i : ℕ). (b, i)) (index_at set b s)
-place_behind set t s = None
+-- a step from a type: a field of a struct, or an element of the list at a spot
+abbrev pub spot_behind : Schemas → Option Spot → SchemaType → PathStep → Option Spot
+spot_behind set o (StructType b g) s = option_map (λ (i : ℕ). field_spot (b, i)) (index_at set b s)
+spot_behind set o t s = option_map spot_within o
 
--- of steps from a type, which a field led to or none
-abbrev pub last_place : Schemas → Option (ℕ × ℕ) → SchemaType → List PathStep → Option (ℕ × ℕ)
-last_place set o t [] = o
-last_place set o t (s ∷ ss) = option_and_then (λ (u : SchemaType). last_place set (place_behind set t s) u ss) (type_behind set t s)
+-- of steps from a type, at which a spot is or none
+abbrev pub last_spot : Schemas → Option Spot → SchemaType → List PathStep → Option Spot
+last_spot set o t [] = o
+last_spot set o t (s ∷ ss) = option_and_then (λ (u : SchemaType). last_spot set (spot_behind set o t s) u ss) (type_behind set t s)
 
--- of a path from a type; none of the empty path, of one whose last step names an element, and of one that leads to nothing
-abbrev pub field_along : Schemas → SchemaType → List PathStep → Option (ℕ × ℕ)
-field_along set t path = last_place set None t path
+-- of a path from a type; none of the empty path, and of one that leads to nothing
+abbrev pub spot_along : Schemas → SchemaType → List PathStep → Option Spot
+spot_along set t path = last_spot set None t path

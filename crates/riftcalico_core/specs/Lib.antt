@@ -34,6 +34,7 @@ pub mod Room
 pub mod Shown
 pub mod ShownSeen
 pub mod ShownValues
+pub mod SpotsSeen
 pub mod Steps
 pub mod Wanted
 pub mod Whole

@@ -5,6 +5,7 @@ pub mod Kinds
 pub mod Plans
 pub mod RepliesSeen
 pub mod ShownValues
+pub mod Spots
 pub mod Told
 pub mod Whole
 pub mod Wordless

@@ -1,16 +1,13 @@
 //! Calls and edits that words say, under a struct of a set.
-ghost use Rattle.std.specs.Prelude.{[], ◌≡◌, ◌∷◌, ◌+◌, ◌<◌, IfErr, IfOk, IfSome, Some, true, length, map};
+ghost use Rattle.std.specs.Prelude.{[], ◌≡◌, ◌∷◌, ◌+◌, ◌<◌, IfErr, IfOk, IfSome, true, length, map};
 ghost use Rattle.std.specs.Option.{option_map, option_and_then};
 ghost use Rattle.capnp_device.specs.declared.error.ErrorKind.TheVariants.{OutOfMemory};
 ghost use Rattle.capnp_schema.specs.Accepted.{NamesEntries};
 ghost use Rattle.capnp_schema.specs.Entries.{lists_seen};
-ghost use Rattle.capnp_schema.specs.FieldLists.{typed_of};
-ghost use Rattle.capnp_schema.specs.GroupsDown.{place_of_field};
 ghost use Rattle.capnp_schema.specs.Schema.{Schemas};
 ghost use Rattle.capnp_schema.specs.StructHandles.{IsStruct, number_of, set_of};
 ghost use Rattle.capnp_schema.specs.Types.{seen_type};
 ghost use Rattle.capnp_records.specs.Run.{root_type};
-ghost use Rattle.capnp_slots.specs.Fields.{field_set};
 ghost use Rattle.capnp_slots.specs.SetValues.{source_of};
 ghost use Rattle.capnp_call.specs.Seen.{call_seen, op_seen, path_seen, step_seen};
 ghost use Rattle.capnp_edit_calls.specs.ActsSeen.{CallAct, EditAct, act_seen};
@@ -19,16 +16,18 @@ ghost use Rattle.capnp_words.specs.Calls.{call_at};
 ghost use Rattle.capnp_words.specs.Reads.{read_as};
 ghost use Rattle.capnp_words.specs.Seen as said;
 ghost use Rattle.capnp_words.specs.Targets.{type_along};
-ghost use Rattle.riftcalico_core.specs.Calls.{IsCallRead, IsSourceGiven, IsSourceRead, element_of, from_of, given_field, given_type, member_asked, plain_read, split};
+ghost use Rattle.riftcalico_core.specs.Calls.{IsCallRead, IsSourceGiven, IsSourceRead, element_of, from_of, given_spot, given_type, member_asked, plain_read, split};
 ghost use Rattle.riftcalico_core.specs.CallsSeen.{all_seen, given_source, given_value_source, read_act_seen};
 ghost use Rattle.capnp_json_messages.specs.Ones.{is_whole};
 ghost use Rattle.riftcalico_core.specs.JsonValues.{IsWholeGiven};
-ghost use Rattle.riftcalico_core.specs.LastFields.{field_along};
+ghost use Rattle.riftcalico_core.specs.LastFields.{spot_along};
 ghost use Rattle.riftcalico_core.specs.ShownValues.{IsGivenBy, IsShownGiven, shown_fault};
 ghost use Rattle.riftcalico_core.specs.Reads.{AreRead, each_word_read};
+ghost use Rattle.riftcalico_core.specs.SpotsSeen.{IsSpotOf, spot_seen};
+ghost use Rattle.riftcalico_core.specs.Steps.Spots.{IsSpotAt};
 
 use crate::json_values::{WholeValue, is_whole, read_whole};
-use crate::last_field::find_last_field;
+use crate::last_field::{Spot, find_spot, go_within};
 use crate::shown_values::{ShownValue, find_shown_fault, read_shown};
 use crate::words::word_at;
 use capnp_base::introspect::{Type, TypeVariant};
@@ -39,12 +38,12 @@ use capnp_edit_calls::change::Change;
 use capnp_edit_calls::copy::PathCopy;
 use capnp_edit_calls::edit::ListEdit;
 use capnp_queries::floats::has_floats_at;
-use capnp_schema::schema::{Field, StructSchema};
+use capnp_schema::schema::StructSchema;
 use capnp_schema::set::SchemaSet;
 use capnp_wire::error::Result;
 use capnp_words::call::{CallWord, WordOp, parse_call};
 use capnp_words::marked::parse_marked_value;
-use capnp_words::path::{Path, PathStep, Read as WordRead};
+use capnp_words::path::{Path, PathStep};
 use capnp_words::target::target_type;
 use capnp_words::value::PlainValue;
 use std::alloc::Global;
@@ -146,25 +145,26 @@ pub(crate) fn find_given_type(schema: StructSchema<'_>, call: &CallWord) -> Opti
     }
 }
 
-/// The field that a call sets, if the last step of its path names one. Edits are given elements.
-fn find_given_field<'s>(schema: StructSchema<'s>, call: &CallWord) -> Option<Field<'s>>
+/// The spot of what a call or an edit is given: where a set's path leads, or of an append and an insertion an element there.
+fn find_given_spot<'s>(schema: StructSchema<'s>, call: &CallWord) -> Option<Spot<'s>>
     requires { IsStruct schema }
-    ensures is { option_map place_of_field result ≡ given_field (said.op_text_seen call.now.op) (field_along (set_of schema.entry)
+    ensures is { option_map spot_seen result ≡ given_spot (said.op_text_seen call.now.op) (spot_along (set_of schema.entry)
         (root_type (set_of schema.entry) (number_of schema.entry)) (said.path_text_seen call.now.path)) }
-    ensures typed { IfSome result (λ f. (field_set f ≡ set_of schema.entry) × (given_type (said.op_text_seen call.now.op)
+    ensures typed { IfSome result (IsSpotAt (set_of schema.entry) (given_type (said.op_text_seen call.now.op)
         (type_along (set_of schema.entry) (root_type (set_of schema.entry) (number_of schema.entry))
-        (said.path_text_seen call.now.path)) ≡ Some (typed_of f).type)) }
+        (said.path_text_seen call.now.path)))) }
 {
     match &call.op {
-        WordOp::Set(_, _) => find_last_field(schema, &call.path),
+        WordOp::Set(_, _) => find_spot(schema, &call.path),
+        WordOp::Append(_, _) | WordOp::Insert(_, _, _) => {
+            go_within(find_spot(schema, &call.path))
+        }
         WordOp::Get
         | WordOp::Has
         | WordOp::Which
         | WordOp::Init
         | WordOp::Initn(_)
         | WordOp::Clear
-        | WordOp::Append(_, _)
-        | WordOp::Insert(_, _, _)
         | WordOp::Remove(_)
         | WordOp::Resize(_)
         | WordOp::Copy(_) => None,
@@ -198,18 +198,18 @@ fn read_printed_value<'s>(
     alloc: Global,
     schemas: &'s SchemaSet,
     target: Type,
-    field: Option<Field<'s>>,
+    spot: Option<Spot<'s>>,
     value: &[u8],
     fault: usize,
     place: usize,
 ) -> Result<std::result::Result<GivenValue<'s>, u128>>
     requires entries { NamesEntries (lists_seen schemas.now) (seen_type target) }
-    requires typed { IfSome field (λ f. (field_set f ≡ lists_seen schemas.now) × (seen_type target ≡ (typed_of f).type)) }
-    ensures read { IfOk result (λ r. IsShownGiven (lists_seen schemas.now) (option_map place_of_field field.entry)
+    requires typed { IfSome spot (IsSpotOf (lists_seen schemas.now) (seen_type target)) }
+    ensures read { IfOk result (λ r. IsShownGiven (lists_seen schemas.now) (option_map spot_seen spot.entry)
         (seen_type target) value.now fault place (read_as given_value_source r)) }
     ensures memory { IfErr result (λ e. e.kind ≡ OutOfMemory) }
 {
-    match read_shown(alloc, schemas, target, field, value)? {
+    match read_shown(alloc, schemas, target, spot, value)? {
         Ok(shown) => Ok(Ok(GivenValue::Shown(shown))),
         Err(inner) => Ok(Err(place as u128 + fault.max(inner) as u128)),
     }
@@ -221,21 +221,21 @@ fn read_whole_value<'s>(
     alloc: Global,
     schemas: &'s SchemaSet,
     target: Type,
-    field: Option<Field<'s>>,
+    spot: Option<Spot<'s>>,
     floats: bool,
     value: &[u8],
     place: usize,
 ) -> Result<std::result::Result<GivenValue<'s>, u128>>
     requires entries { NamesEntries (lists_seen schemas.now) (seen_type target) }
-    requires typed { IfSome field (λ f. (field_set f ≡ lists_seen schemas.now) × (seen_type target ≡ (typed_of f).type)) }
+    requires typed { IfSome spot (IsSpotOf (lists_seen schemas.now) (seen_type target)) }
     requires whole { is_whole (seen_type target) ≡ true }
     ensures read { IfOk result (λ r. IsGivenBy (shown_fault value.now) (lists_seen schemas.now)
-        (option_map place_of_field field.entry) floats (seen_type target) value.now place (read_as given_value_source r)) }
+        (option_map spot_seen spot.entry) floats (seen_type target) value.now place (read_as given_value_source r)) }
     ensures memory { IfErr result (λ e. e.kind ≡ OutOfMemory) }
 {
     match find_shown_fault(alloc, value)? {
         None => read_json_value(alloc, schemas, target, floats, value, place),
-        Some(fault) => read_printed_value(alloc, schemas, target, field, value, fault, place),
+        Some(fault) => read_printed_value(alloc, schemas, target, spot, value, fault, place),
     }
 }
 
@@ -264,15 +264,15 @@ fn read_given_value<'s>(
     alloc: Global,
     schema: StructSchema<'s>,
     target: Option<Type>,
-    field: Option<Field<'s>>,
+    spot: Option<Spot<'s>>,
     floats: bool,
     value: &[u8],
     place: usize,
 ) -> Result<std::result::Result<GivenValue<'s>, u128>>
     requires stands { IsStruct schema }
     requires entries { IfSome target (λ t. NamesEntries (set_of schema) (seen_type t)) }
-    requires typed { IfSome field (λ f. (field_set f ≡ set_of schema) × (option_map seen_type target ≡ Some (typed_of f).type)) }
-    ensures read { IfOk result (λ r. IsSourceRead (set_of schema.entry) (option_map place_of_field field.entry) floats (option_map seen_type target) value.now place
+    requires typed { IfSome spot (IsSpotAt (set_of schema) (option_map seen_type target)) }
+    ensures read { IfOk result (λ r. IsSourceRead (set_of schema.entry) (option_map spot_seen spot.entry) floats (option_map seen_type target) value.now place
         (read_as given_value_source r)) }
     ensures memory { IfErr result (λ e. e.kind ≡ OutOfMemory) }
 {
@@ -281,7 +281,7 @@ fn read_given_value<'s>(
     };
     let schemas = schema.get_set();
     if is_whole(target.which()) {
-        return read_whole_value(alloc, schemas, target, field, floats, value, place);
+        return read_whole_value(alloc, schemas, target, spot, floats, value, place);
     }
     read_plain_value(alloc, schemas, target, floats, value, place)
 }
@@ -293,13 +293,13 @@ fn read_value<'s>(
     schema: StructSchema<'s>,
     op: &WordOp,
     target: Option<Type>,
-    field: Option<Field<'s>>,
+    spot: Option<Spot<'s>>,
     floats: bool,
 ) -> Result<std::result::Result<GivenValue<'s>, u128>>
     requires stands { IsStruct schema }
     requires entries { IfSome target (λ t. NamesEntries (set_of schema) (seen_type t)) }
-    requires typed { IfSome field (λ f. (field_set f ≡ set_of schema) × (option_map seen_type target ≡ Some (typed_of f).type)) }
-    ensures read { IfOk result (λ r. IsSourceGiven (set_of schema.entry) (option_map place_of_field field.entry) floats (option_map seen_type target)
+    requires typed { IfSome spot (IsSpotAt (set_of schema) (option_map seen_type target)) }
+    ensures read { IfOk result (λ r. IsSourceGiven (set_of schema.entry) (option_map spot_seen spot.entry) floats (option_map seen_type target)
         (said.op_text_seen op.now) (read_as given_value_source r)) }
     ensures memory { IfErr result (λ e. e.kind ≡ OutOfMemory) }
 {
@@ -307,7 +307,7 @@ fn read_value<'s>(
         WordOp::Set(value, place)
         | WordOp::Append(value, place)
         | WordOp::Insert(_, value, place) => {
-            read_given_value(alloc, schema, target, field, floats, value, *place)
+            read_given_value(alloc, schema, target, spot, floats, value, *place)
         }
         WordOp::Get
         | WordOp::Has
@@ -381,8 +381,8 @@ fn read_call<'s, 'c>(
     let from = steps_from(alloc, &word.op)?;
     let floats = has_floats_at(schema, steps.as_slice());
     let target = find_given_type(schema, word);
-    let field = find_given_field(schema, word);
-    match read_value(alloc, schema, &word.op, target, field, floats)? {
+    let spot = find_given_spot(schema, word);
+    match read_value(alloc, schema, &word.op, target, spot, floats)? {
         Ok(value) => Ok(Ok(ReadCall {
             word,
             steps,

@@ -4,14 +4,13 @@ ghost use Rattle.capnp_device.specs.declared.error.ErrorKind.TheVariants.{OutOfM
 ghost use Rattle.capnp_wire.specs.Depth.{IsShallow};
 ghost use Rattle.capnp_wire.specs.Edits.{struct_in};
 ghost use Rattle.capnp_wire.specs.Place.{struct_tree};
-ghost use Rattle.capnp_wire.specs.Standing.{list_levels, list_of, struct_of};
+ghost use Rattle.capnp_wire.specs.Standing.{list_levels, list_of, struct_of, tree_of};
 ghost use Rattle.capnp_wire.specs.Tree.{StructTree, nth_tree};
 ghost use Rattle.capnp_wire.specs.Words.{first_fault};
 ghost use Rattle.capnp_arena.specs.Message.{IsMessage, message_tree};
 ghost use Rattle.capnp_schema.specs.Accepted.{NamesEntries};
 ghost use Rattle.capnp_schema.specs.Entries.{lists_seen};
 ghost use Rattle.capnp_schema.specs.FieldLists.{typed_of};
-ghost use Rattle.capnp_schema.specs.GroupsDown.{place_of_field};
 ghost use Rattle.capnp_schema.specs.StructHandles.{IsStruct, number_of, set_of};
 ghost use Rattle.capnp_schema.specs.Types.{ListType, StructType, seen_type};
 ghost use Rattle.capnp_records.specs.Call.{ListSource};
@@ -20,11 +19,15 @@ ghost use Rattle.capnp_records.specs.Writes.TreeEnds.{offset_of};
 ghost use Rattle.std.specs.Option.{option_map};
 ghost use Rattle.capnp_slots.specs.Fields.{field_set};
 ghost use Rattle.capnp_slots.specs.SetValues.{source_of};
-ghost use Rattle.riftcalico_core.specs.ShownSeen.{part_source, shown_source};
+ghost use Rattle.capnp_value_texts.specs.Calls.{lists_of};
+ghost use Rattle.riftcalico_core.specs.LastFields.{Spot as SpotSaid};
+ghost use Rattle.riftcalico_core.specs.ShownSeen.{part_source, shown_source, tree_down};
 ghost use Rattle.riftcalico_core.specs.ShownValues.{IsShownRead, IsShownUnread, begins_shown, shown_fault};
+ghost use Rattle.riftcalico_core.specs.SpotsSeen.{IsSpotOf, spot_seen};
 ghost use Rattle.riftcalico_core.specs.Steps.ShownValues.{IsPlaceOf};
 
 use crate::json_values::find_begin;
+use crate::last_field::Spot;
 use capnp_arena::arena::Arena;
 use capnp_base::introspect::{Type, TypeVariant};
 use capnp_call::message::MOST_WORDS;
@@ -33,14 +36,14 @@ use capnp_dynamic_readers::{dynamic_list, dynamic_struct};
 use capnp_json_text::faults::first_fault;
 use capnp_json_text::rest::skip_blanks;
 use capnp_schema::plan::Place;
-use capnp_schema::schema::{Field, StructSchema};
+use capnp_schema::schema::StructSchema;
 use capnp_schema::set::SchemaSet;
 use capnp_value_texts::error::Error as TextError;
-use capnp_value_texts::value::{read_field, read_root};
+use capnp_value_texts::value::{read_element, read_root};
 use capnp_wire::error::{Error, ErrorKind, Result};
 use capnp_wire::laws::pointer_is_well_formed;
 use capnp_wire::parts::pointer::look;
-use capnp_wire::{ListReader, StructReader};
+use capnp_wire::{ListReader, PointerReader, StructReader};
 use std::alloc::Global;
 use std::marker::Model;
 
@@ -49,8 +52,9 @@ use std::marker::Model;
 pub enum Part<'s> {
     /// All of it, under a schema.
     Root(StructSchema<'s>),
-    /// The list behind the pointer of an index, of elements of a type of the set.
-    Behind(&'s SchemaSet, Type, u16),
+    /// Of elements of a type of the set, the list so many lists down from that behind the pointer of an index, each time in
+    /// the first element.
+    Behind(&'s SchemaSet, Type, u16, usize),
 }
 
 /// A struct or a list: a root or a part of it, in a message of its own that can be read whole.
@@ -78,14 +82,34 @@ impl<'s> Model for ShownValue<'s> {
         × (message_tree w.root ≡ struct_tree (struct_in (message_tree w.root))) };
 }
 
-/// What stands behind a pointer of a root, as a list. Inside it 62 levels are left of a message's 64.
-fn list_behind<'a>(root: StructReader<'a>, index: u16) -> ListReader<'a>
-    ensures list { list_of result ≡ nth_tree (struct_of root.entry).pointers index }
+/// What a pointer leads to, as a list. Inside the root of a message 62 levels are left of 64.
+fn list_at(pointer: PointerReader<'_>) -> ListReader<'_>
+    ensures list { list_of result ≡ tree_of pointer.entry }
     ensures levels { list_levels result ≡ 62 }
 {
-    let pointer = root.get_pointer_field(index);
     pointer_is_well_formed(&pointer);
     ListReader::new(look(pointer.pointer()), 62)
+}
+
+/// The list so many lists down from one, each time in the first element.
+fn list_down(list: ListReader<'_>, depth: usize) -> ListReader<'_>
+    requires levels { list_levels list ≡ 62 }
+    ensures list { list_of result ≡ tree_down depth (list_of list.entry) }
+    ensures levels { list_levels result ≡ 62 }
+{
+    let mut now = list;
+    for _ in 0..depth {
+        now = list_at(now.get_pointer_element(0));
+    }
+    now
+}
+
+/// The list so many lists down from what stands behind a pointer of a root.
+fn list_behind<'a>(root: StructReader<'a>, index: u16, depth: usize) -> ListReader<'a>
+    ensures list { list_of result ≡ tree_down depth (nth_tree (struct_of root.entry).pointers index) }
+    ensures levels { list_levels result ≡ 62 }
+{
+    list_down(list_at(root.get_pointer_field(index)), depth)
 }
 
 impl ShownValue<'_> {
@@ -97,8 +121,8 @@ impl ShownValue<'_> {
         let root = self.root.get_pointer_reader(0).get_struct()?;
         match self.part {
             Part::Root(schema) => Ok(Value::Struct(dynamic_struct::Reader::new(root, schema))),
-            Part::Behind(schemas, element, index) => {
-                let list = list_behind(root, index);
+            Part::Behind(schemas, element, index, depth) => {
+                let list = list_behind(root, index, depth);
                 Ok(Value::List(dynamic_list::Reader::new(list, element, schemas)))
             }
         }
@@ -169,10 +193,10 @@ fn read_shown_struct<'s>(
     text: &[u8],
 ) -> Result<std::result::Result<ShownValue<'s>, usize>>
     requires { IsStruct schema }
-    ensures read { (field : Option (ℕ × ℕ)) → (generic : ℕ) → IfOk result (λ r. IfOk r (λ w. IsShownRead (set_of schema.entry)
-        field (StructType (number_of schema.entry) generic) text.now (shown_source w))) }
-    ensures unread { (field : Option (ℕ × ℕ)) → (generic : ℕ) → IfOk result (λ r. IfErr r (IsShownUnread (set_of schema.entry)
-        field (StructType (number_of schema.entry) generic) text.now)) }
+    ensures read { (spot : Option SpotSaid) → (generic : ℕ) → IfOk result (λ r. IfOk r (λ w. IsShownRead (set_of schema.entry)
+        spot (StructType (number_of schema.entry) generic) text.now (shown_source w))) }
+    ensures unread { (spot : Option SpotSaid) → (generic : ℕ) → IfOk result (λ r. IfErr r (IsShownUnread (set_of schema.entry)
+        spot (StructType (number_of schema.entry) generic) text.now)) }
     ensures memory { IfErr result (λ e. e.kind ≡ OutOfMemory) }
 {
     let first = find_begin(text);
@@ -182,70 +206,70 @@ fn read_shown_struct<'s>(
     }
 }
 
-/// The list of elements of a type that a field is.
-fn list_of_field<'s>(field: Field<'s>, element: Type) -> Part<'s>
-    requires typed { (typed_of field).type ≡ ListType (seen_type element) }
-    ensures { (s : StructTree) → part_source result s
-        ≡ ListSource (Left 62) (nth_tree s.pointers (offset_of (typed_of field.entry).field.kind)) (seen_type element) }
+/// The list of elements of a type that is at a spot.
+fn list_at_spot<'s>(spot: Spot<'s>, element: Type) -> Part<'s>
+    requires typed { (typed_of spot.field).type ≡ lists_of spot.depth (ListType (seen_type element)) }
+    ensures { (s : StructTree) → part_source result s ≡ ListSource (Left 62) (tree_down spot.entry.depth
+        (nth_tree s.pointers (offset_of (typed_of spot.entry.field).field.kind))) (seen_type element) }
 {
-    let schemas = field.get_containing_struct().get_set();
-    let Place::Pointer(pointer) = field.plan().place else {
+    let schemas = spot.field.get_containing_struct().get_set();
+    let Place::Pointer(pointer) = spot.field.plan().place else {
         unreachable!()
     };
-    Part::Behind(schemas, element, pointer)
+    Part::Behind(schemas, element, pointer, spot.depth)
 }
 
-/// The list of elements of a type that a text stands for, as the value of its field.
+/// The list of elements of a type that a text stands for, at its spot.
 fn read_shown_list<'s>(
     alloc: Global,
-    field: Field<'s>,
+    spot: Spot<'s>,
     element: Type,
     text: &[u8],
 ) -> Result<std::result::Result<ShownValue<'s>, usize>>
-    requires typed { (typed_of field).type ≡ ListType (seen_type element) }
-    ensures read { IfOk result (λ r. IfOk r (λ w. IsShownRead (field_set field.entry) (Some (place_of_field field.entry))
+    requires typed { (typed_of spot.field).type ≡ lists_of spot.depth (ListType (seen_type element)) }
+    ensures read { IfOk result (λ r. IfOk r (λ w. IsShownRead (field_set spot.entry.field) (Some (spot_seen spot.entry))
         (ListType (seen_type element)) text.now (shown_source w))) }
-    ensures unread { IfOk result (λ r. IfErr r (IsShownUnread (field_set field.entry) (Some (place_of_field field.entry))
+    ensures unread { IfOk result (λ r. IfErr r (IsShownUnread (field_set spot.entry.field) (Some (spot_seen spot.entry))
         (ListType (seen_type element)) text.now)) }
     ensures memory { IfErr result (λ e. e.kind ≡ OutOfMemory) }
 {
     let first = find_begin(text);
     // The prover learns the set's invariant from this call.
-    let _schema = field.get_containing_struct();
-    match read_field(alloc, MOST_WORDS, field, text) {
-        Ok(root) => Ok(keep_part(root, list_of_field(field, element), first)),
+    let _schema = spot.field.get_containing_struct();
+    match read_element(alloc, MOST_WORDS, spot.field, spot.depth, text) {
+        Ok(root) => Ok(keep_part(root, list_at_spot(spot, element), first)),
         Err(error) => Ok(Err(place_of(error, first)?)),
     }
 }
 
-/// The struct or list of a type that a printed text stands for: a list as the value of its field, which is none of an element.
-/// Or the place of the first byte that can't stand there; the text's first where no message can hold the value, or it is more
-/// than 64 levels deep; and 0 of a list that is an element. Refused with `OutOfMemory` alone.
+/// The struct or list of a type that a printed text stands for: a list as the value of its field, or as an element of the lists
+/// there. Or the place of the first byte that can't stand there; the text's first where no message can hold the value, or it is
+/// more than 64 levels deep; and 0 of a list without a spot. Refused with `OutOfMemory` alone.
 ///
 /// # Conditions
 ///
-/// The type names entries of the set (`NamesEntries`), and is that of the field.
+/// The type names entries of the set (`NamesEntries`), and is that of the spot (`IsSpotOf`).
 pub fn read_shown<'s>(
     alloc: Global,
     schemas: &'s SchemaSet,
     target: Type,
-    field: Option<Field<'s>>,
+    spot: Option<Spot<'s>>,
     text: &[u8],
 ) -> Result<std::result::Result<ShownValue<'s>, usize>>
     requires entries { NamesEntries (lists_seen schemas.now) (seen_type target) }
-    requires typed { IfSome field (λ f. (field_set f ≡ lists_seen schemas.now) × (seen_type target ≡ (typed_of f).type)) }
+    requires typed { IfSome spot (IsSpotOf (lists_seen schemas.now) (seen_type target)) }
     ensures read { IfOk result (λ r. IfOk r (λ w. IsShownRead (lists_seen schemas.now)
-        (option_map place_of_field field.entry) (seen_type target) text.now (shown_source w))) }
+        (option_map spot_seen spot.entry) (seen_type target) text.now (shown_source w))) }
     ensures unread { IfOk result (λ r. IfErr r (IsShownUnread (lists_seen schemas.now)
-        (option_map place_of_field field.entry) (seen_type target) text.now)) }
+        (option_map spot_seen spot.entry) (seen_type target) text.now)) }
     ensures memory { IfErr result (λ e. e.kind ≡ OutOfMemory) }
 {
     match target.which() {
         TypeVariant::Struct(raw) => {
             read_shown_struct(alloc, schemas.struct_schema(raw.number), text)
         }
-        TypeVariant::List(element) => match field {
-            Some(field) => read_shown_list(alloc, field, element, text),
+        TypeVariant::List(element) => match spot {
+            Some(spot) => read_shown_list(alloc, spot, element, text),
             None => Ok(Err(0)),
         },
         _ => Ok(Err(0)),
