@@ -124,7 +124,7 @@ pub mod edits {
     pub use crate::capnp_edits::added::{list_one, new_elements};
     pub use crate::capnp_edits::edit::{change_list, Edit};
     pub use crate::capnp_splices::read::read_list;
-    pub use crate::one_call::edit_bytes;
+    pub use crate::one_call::{edit_by_words, edit_bytes, Unreadable};
 }
 
 /// Types as values.

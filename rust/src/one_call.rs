@@ -9,12 +9,16 @@ use crate::capnp_dynamic::{dynamic_struct, dynamic_value, printer};
 use crate::capnp_edit_calls::acts::Act;
 use crate::capnp_edit_calls::message::run_acts_copied;
 use crate::capnp_patch::reach::read_path;
-use crate::capnp_schema::schema::StructSchema;
+use crate::capnp_schema::schema::{Field, StructSchema};
 use crate::capnp_schema::set::SchemaSet;
 use crate::capnp_wire::message::Reader;
-use crate::capnp_words::path::{parse_path, PathStep};
+use crate::capnp_words::call::{CallWord, WordOp};
+use crate::capnp_words::path::{parse_path, Path, PathStep};
 use crate::rattle_std::alloc::{AllocError, Global};
 use crate::rattle_std::string::String;
+use crate::rattle_std::vec::Vec as HeldVec;
+pub use crate::riftcalico_core::calls::Unreadable;
+use crate::riftcalico_core::calls::{make_acts, make_values, read_all_calls, read_calls};
 
 impl SchemaSet {
     /// The set that a request of the public compiler stands for: what `capnp compile -o-` writes. Float types stand as
@@ -46,6 +50,30 @@ impl SchemaSet {
     /// Refused with `NameNotFound` where no struct has the name.
     pub fn get_struct_named(&self, name: &str) -> Result<StructSchema<'_>> {
         self.find_struct(name).ok_or(Error::from(ErrorKind::NameNotFound))
+    }
+}
+
+impl<'a> dynamic_struct::Builder<'a> {
+    /// Sets a field of the struct's schema to the value that a text stands for under its type, as `riftcalico patch` reads
+    /// it: a struct, group or list as it is printed or as JSON, a text in quotes or as it stands.
+    ///
+    /// The inner refusal is the place of the first byte that can't stand there. Refused, too, as
+    /// [`dynamic_struct::Builder::set`]; nothing is set where no value was read.
+    pub fn set_from_text(&mut self, field: Field<'a>, text: &str) -> Result<std::result::Result<(), usize>> {
+        let mut steps = HeldVec::new(Global);
+        steps.push(PathStep::Field(field.get_index()))?;
+        let mut bytes = HeldVec::new(Global);
+        bytes.extend_from_slice(text.as_bytes())?;
+        let set = [CallWord {
+            path: Path { steps },
+            op: WordOp::Set(bytes, 0),
+        }];
+        let read = match read_all_calls(Global, field.get_containing_struct(), &set)? {
+            Ok(read) => read,
+            Err(at) => return Ok(Err(at.place as usize)),
+        };
+        let values = make_values(Global, &read)?;
+        self.set(field, values[0]).map(Ok)
     }
 }
 
@@ -85,6 +113,28 @@ pub fn edit_bytes(bytes: &[u8], schema: StructSchema<'_>, acts: &[Act<'_>]) -> R
     let source = Reader::new(Global, bytes)?.get_root();
     let left = run_acts_copied(Global, MOST_WORDS, source, schema, acts)?;
     Ok((left.replies.into(), left.message.write_message()?.into()))
+}
+
+/// What calls, edits and copies that words say leave of the root of the first message in these bytes: the words of
+/// `riftcalico patch`, as `set people.0.name Bob` or `append people (name = "Carol")`. As [`edit_bytes`] otherwise.
+///
+/// The inner refusal is the first word that can't be read, and the place in it; nothing is done then.
+pub fn edit_by_words(
+    bytes: &[u8],
+    schema: StructSchema<'_>,
+    words: &[&str],
+) -> Result<std::result::Result<(Vec<Reply>, Vec<u8>), Unreadable>> {
+    let words = match read_calls(Global, words)? {
+        Ok(words) => words,
+        Err(at) => return Ok(Err(at)),
+    };
+    let read = match read_all_calls(Global, schema, &words)? {
+        Ok(read) => read,
+        Err(at) => return Ok(Err(at)),
+    };
+    let values = make_values(Global, &read)?;
+    let acts = make_acts(Global, &read, &values)?;
+    edit_bytes(bytes, schema, &acts).map(Ok)
 }
 
 /// The changes that make the root of the first message in the old bytes into that in the new ones. With the calls of

@@ -303,6 +303,15 @@ fn try_elements(field: Field<'_>, value: Value<'_>) -> usize {
     tried
 }
 
+/// The print of a field of a new struct that is set from a text.
+fn print_of_set(field: Field<'_>, text: &str, indented: bool) -> String {
+    let mut message = message::Builder::new(Global).expect("there is memory");
+    let mut root = dynamic_struct::Builder::open(message.root(), field.get_containing_struct()).expect("there is memory");
+    assert_eq!(root.set_from_text(field, text).expect("it takes the value"), Ok(()), "{text}");
+    let left = root.into_reader().get(field).expect("it can be read");
+    to_string(left, indented).expect("it has a print")
+}
+
 /// The value of each field of a struct alone, and the lists that are elements of its lists: how many there are of both.
 fn try_fields(set: &SchemaSet, number: u32, bytes: &[u8]) -> (usize, usize) {
     let schema = set.struct_schema(number);
@@ -323,6 +332,10 @@ fn try_fields(set: &SchemaSet, number: u32, bytes: &[u8]) -> (usize, usize) {
         let sections = made.get_pointer_reader(0).get_struct().expect("the root is a struct");
         let left = dynamic_struct::Reader::new(sections, schema).get(field).expect("it can be read");
         assert_eq!(to_string(left, index % 2 == 0).expect("it has a print"), print);
+        if field.get_group().is_none() {
+            // A group is copied field by field, and a null list or text is an empty one then.
+            assert_eq!(print_of_set(field, &print, index % 2 == 0), print);
+        }
         tried += 1;
         elements += try_elements(field, value);
     }
