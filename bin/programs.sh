@@ -1,10 +1,22 @@
 # What the launchers and ./prove ask of a program. Whoever reads this file has set root to the top of the repository.
 
-# the crates of this repository that a program stands on, lowest first, by its line in crates.txt
+# The crates of this repository that a program stands on, lowest first: those that its line in crates.txt names, and
+# those that their lines name.
 crates_below() {
-    for below in $(sed -n "s/^$1\( [^:]*\)\{0,1\}: *//p" "$root/crates.txt"); do
-        [ -d "$root/crates/$below" ] && echo "$below"
-    done
+    awk -v top="$1" '
+        function visit(name, named, count, at) {
+            if (name in seen) return
+            seen[name] = 1
+            count = split(below[name], named, " ")
+            for (at = 1; at <= count; at++) if (named[at] in below) visit(named[at])
+            if (name != top) print name
+        }
+        /^[a-z]/ {
+            split($0, parts, ":")
+            split(parts[1], head, " ")
+            below[head[1]] = parts[2]
+        }
+        END { visit(top) }' "$root/crates.txt"
 }
 
 # where the proved program stands, if there is one

@@ -9,6 +9,7 @@ ghost use Rattle.capnp_schema.specs.StructHandles.{IsStruct};
 ghost use Rattle.capnp_slots.specs.Standing.{IsStanding};
 ghost use Rattle.capnp_bench.specs.Steps.Room.{AreItemFields, HoldsItems, IsSlotOfList, LiesIn};
 
+use crate::document_set::{DOCUMENT, ITEM, read_documents, schema_of};
 use crate::sets::{field_of, set, start_root};
 use capnp_arena::arena::{Arena, Place};
 use capnp_arena::message::Builder;
@@ -17,24 +18,12 @@ use capnp_call::calls::{Call, Op, Step};
 use capnp_call::message::{MOST_WORDS, run_copied};
 use capnp_dynamic::{part, slot};
 use capnp_dynamic_readers::dynamic_value::Reader as Value;
-use capnp_fixtures::fixtures::schema_of;
-use capnp_fixtures::set_text::read_set_text;
 use capnp_schema::schema::{Field, StructSchema};
 use capnp_slots::size_of;
 use capnp_wire::error::{Error, Result};
 use capnp_wire::message::Reader;
 use capnp_wire::size::ElementSize;
 use std::alloc::Global;
-
-/// The structs of a document, an item and a tag.
-pub(crate) const SET: &str = "
-struct 1 2, version UInt32 @0, title Text @0, items List(Struct(1)) @1;
-struct 2 4, id UInt64 @0, kind UInt16 @4, name Text @0, note Text @1, numbers List(UInt32) @2, tags List(Struct(2)) @3;
-struct 1 1, number UInt32 @0, label Text @0";
-
-const DOCUMENT: u32 = 0;
-
-const ITEM: u32 = 1;
 
 /// The length of a list that is built.
 const COUNT: u32 = 100_000;
@@ -115,7 +104,7 @@ fn patch_once(
 }
 
 fn patch(alloc: Global, bytes: &[u8], rounds: u64) -> Result<u64> {
-    let schemas = read_set_text(alloc, SET)?;
+    let schemas = read_documents(alloc)?;
     let document = schema_of(&schemas, DOCUMENT)?;
     let calls = calls_of(alloc)?;
     let mut sum: u64 = 0;
@@ -128,7 +117,7 @@ fn patch(alloc: Global, bytes: &[u8], rounds: u64) -> Result<u64> {
 
 /// Writes a document that was patched once so many times.
 fn write_patched(alloc: Global, bytes: &[u8], rounds: u64) -> Result<u64> {
-    let schemas = read_set_text(alloc, SET)?;
+    let schemas = read_documents(alloc)?;
     let document = schema_of(&schemas, DOCUMENT)?;
     let calls = calls_of(alloc)?;
     let message = patch_once(alloc, bytes, document, &calls)?;
@@ -257,7 +246,7 @@ fn build_once(
 }
 
 fn build(alloc: Global, rounds: u64) -> Result<u64> {
-    let schemas = read_set_text(alloc, SET)?;
+    let schemas = read_documents(alloc)?;
     let document = schema_of(&schemas, DOCUMENT)?;
     let item = schema_of(&schemas, ITEM)?;
     let fields = item_fields(item)?;

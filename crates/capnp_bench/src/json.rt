@@ -1,24 +1,18 @@
 //! JSON: of a document, and of a list of floats, written and read.
 
-use crate::documents::SET;
-use capnp_fixtures::fixtures::schema_of;
-use capnp_fixtures::set_text::read_set_text;
+use crate::document_set::{DOCUMENT, MEASURES, read_documents, schema_of};
 use capnp_json::message::message_to_json;
 use capnp_json_messages::message::read_message;
 use capnp_wire::error::{Error, ErrorKind, Result};
 use std::alloc::Global;
 
-/// A struct with a list of numbers that are marked as floats.
-const MEASURES: &str =
-    "struct 0 1, values List(UInt64) @0; note field:0 17442370646614463749 Void Void";
-
 /// The most bytes of a JSON.
 const LIMIT: usize = 1 << 30;
 
-/// Writes a message as the JSON of the first struct of a set.
-fn json_of(alloc: Global, set: &'static str, message: &[u8]) -> Result<Vec<u8>> {
-    let schemas = read_set_text(alloc, set)?;
-    let schema = schema_of(&schemas, 0)?;
+/// Writes a message as the JSON of a struct of the set.
+fn json_of(alloc: Global, number: u32, message: &[u8]) -> Result<Vec<u8>> {
+    let schemas = read_documents(alloc)?;
+    let schema = schema_of(&schemas, number)?;
     match message_to_json(alloc, schema, message, false, LIMIT) {
         Ok(json) => Ok(json),
         Err(_) => Err(Error::from(ErrorKind::TooLarge)),
@@ -40,7 +34,7 @@ fn commas_in(bytes: &[u8]) -> u64 {
 fn json_document(alloc: Global, message: &[u8], rounds: u64) -> Result<u64> {
     let mut sum: u64 = 0;
     for _ in 0..rounds {
-        let json = json_of(alloc, SET, message)?;
+        let json = json_of(alloc, DOCUMENT, message)?;
         sum = sum.wrapping_add(json.len() as u64);
     }
     Ok(sum)
@@ -56,10 +50,10 @@ fn json_floats(alloc: Global, message: &[u8], rounds: u64) -> Result<u64> {
     Ok(sum)
 }
 
-/// Reads a JSON as the first struct of a set so many times, and adds the words of the messages.
-fn read_json(alloc: Global, set: &'static str, json: &[u8], rounds: u64) -> Result<u64> {
-    let schemas = read_set_text(alloc, set)?;
-    let schema = schema_of(&schemas, 0)?;
+/// Reads a JSON as a struct of the set so many times, and adds the words of the messages.
+fn read_json(alloc: Global, number: u32, json: &[u8], rounds: u64) -> Result<u64> {
+    let schemas = read_documents(alloc)?;
+    let schema = schema_of(&schemas, number)?;
     let mut sum: u64 = 0;
     for _ in 0..rounds {
         let message = match read_message(alloc, schema, json, true) {
@@ -83,7 +77,7 @@ pub extern "C" fn bench_json_floats(alloc: Global, message: &[u8], rounds: u64) 
 
 #[unsafe(no_mangle)]
 pub extern "C" fn bench_document_of_json(alloc: Global, message: &[u8], rounds: u64) -> u64 {
-    read_json(alloc, SET, message, rounds).unwrap_or(0)
+    read_json(alloc, DOCUMENT, message, rounds).unwrap_or(0)
 }
 
 #[unsafe(no_mangle)]

@@ -4,6 +4,7 @@
 
 mod arena_builds;
 mod builds;
+mod document_set;
 mod documents;
 mod json;
 mod prints;

@@ -2,9 +2,8 @@
 //! records over, so they are made anew for each check.
 
 use capnp_base::introspect::{RawBrandedStructSchema, Type, TypeVariant};
-use capnp_fixtures::fixtures::no_types;
 use capnp_schema::record::{
-    BrandRecord, FieldKind, FieldRecord, NodeRecord, StructRecord, ValueRecord,
+    AnnotationTypes, BrandRecord, FieldKind, FieldRecord, NodeRecord, StructRecord, ValueRecord,
 };
 use capnp_schema::set::SchemaSet;
 use capnp_wire::error::Result;
@@ -114,6 +113,18 @@ impl Fields {
         }
         Ok(())
     }
+}
+
+/// No types of annotations, for a struct of so many fields.
+fn no_types(alloc: Global, count: usize) -> Result<AnnotationTypes> {
+    let mut children = Vec::new(alloc);
+    for _ in 0..count {
+        children.push(Vec::new(alloc))?;
+    }
+    Ok(AnnotationTypes {
+        own: Vec::new(alloc),
+        children,
+    })
 }
 
 /// Adds the struct of a number, a group where it is not the first of a chain, with its only brand.

@@ -1,3 +1,4 @@
+pub mod Parts
 pub mod Sight
 pub mod Streams
 pub mod Values

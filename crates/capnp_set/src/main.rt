@@ -1,11 +1,6 @@
 //! Reads a compiler's request from standard input and writes its set of schemas.
 #![tactic(auto)]
 
-#[cfg(test)]
-mod messages;
-#[cfg(test)]
-mod tests;
-
 use capnp_set_engine::command;
 use capnp_show_engine::command::{report, words};
 use capnp_wire::device::{ReadSource, WriteSink};

@@ -1,15 +1,6 @@
 //! Reads a message from standard input and prints its root.
 #![tactic(auto)]
 
-#[cfg(test)]
-mod file_tests;
-#[cfg(test)]
-mod messages;
-#[cfg(test)]
-mod set_files;
-#[cfg(test)]
-mod tests;
-
 use capnp_show_engine::command;
 use capnp_wire::device::{ReadSource, WriteSink};
 use std::env;

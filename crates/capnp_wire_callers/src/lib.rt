@@ -4,7 +4,13 @@
 //! of the readers needs to know nothing else of them.
 #![tactic(auto)]
 
+pub mod blobs;
 pub mod built;
+pub mod defaults;
 pub mod devices;
+pub mod elements;
+pub mod numbers;
 pub mod path;
+pub mod pointers;
+pub mod structs;
 pub mod sum;

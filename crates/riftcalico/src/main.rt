@@ -1,27 +1,6 @@
 //! Shows a value of a message, or makes calls on a message or an empty root and writes what they leave.
 #![tactic(auto)]
 
-#[cfg(test)]
-mod diff_tests;
-#[cfg(test)]
-mod edit_tests;
-#[cfg(test)]
-mod json_rows;
-#[cfg(test)]
-mod query_rows;
-#[cfg(test)]
-mod refused_tests;
-#[cfg(test)]
-mod rows;
-#[cfg(test)]
-mod set_rows;
-#[cfg(test)]
-mod stream_tests;
-#[cfg(test)]
-mod tests;
-#[cfg(test)]
-mod value_tests;
-
 use capnp_show_engine::command::{report, words};
 use capnp_wire::device::{ReadSource, WriteSink};
 use capnp_wire::error::ErrorKind;

@@ -1,9 +1,0 @@
-use Rattle.std.proofs.Common.{rules}
-use Rattle.capnp_arena.specs.Segment.{segment}
-use Rattle.capnp_arena_tests.proofs.built_structs.copy_to_pointer.Goals as goal
-
-pub returns-clause-planted : goal.returns-clause-planted
-returns-clause-planted c = (c.pointer_field-pointer.ensures.leaves (segment c.copy_from.new.self.arena.now) (search rules) (search rules)).planted
-
-pub returns-clause-changes : goal.returns-clause-changes
-returns-clause-changes c = (c.pointer_field-pointer.ensures.leaves (segment c.copy_from.new.self.arena.now) (search rules) (search rules)).changes
