@@ -8,7 +8,6 @@
 #[path = "../translate/mod.rs"]
 mod translate;
 
-use std::collections::BTreeSet;
 use std::env;
 use std::fs;
 use std::io::{Error, Result};
@@ -46,16 +45,8 @@ fn main() -> Result<()> {
 
 /// The static libraries and the crates that these stand on, in the order of the list.
 fn timed_and_below(workspace: &Workspace) -> Vec<&Crate> {
-    let mut wanted = BTreeSet::new();
-    for one in workspace.crates.iter().filter(|one| one.is_static) {
-        wanted.insert(one.name.as_str());
-        wanted.extend(one.below.iter().map(String::as_str));
-    }
-    workspace
-        .crates
-        .iter()
-        .filter(|one| wanted.contains(one.name.as_str()))
-        .collect()
+    let timed = workspace.crates.iter().filter(|one| one.is_static);
+    workspace.with_all_below(timed.map(|one| one.name.as_str()))
 }
 
 /// Makes plain functions of a static library's calls, and adds their forms for C at the end of each file.

@@ -20,27 +20,52 @@
 //! # What is proved, and what is not
 //!
 //! Each function of the source is proved to meet its contract (`docs/PROMISES.md` of the repository). This crate has the
-//! same lines, compiled by rustc in place of the prover's own compiler: beside the proofs one trusts rustc, the
-//! translator and what stands for the prover's standard library (`rust/README.md`).
+//! same lines, compiled by rustc in place of the prover's own compiler. So you also trust rustc, the translator, and what
+//! stands for the prover's standard library (`rust/README.md`).
 //!
-//! A call's conditions are told in a section `# Conditions`. The prover holds Rattle's callers to them; nobody holds a
-//! caller in Rust to them. A call outside its conditions may panic or answer something else, but is never undefined:
-//! there is no `unsafe` in the crate. A name in brackets there is that of a definition, told in `docs/DEFINITIONS.md` or
-//! in a folder `specs/`.
+//! # Conditions
+//!
+//! A section `# Conditions` lists what a call requires of its arguments. The prover holds callers in Rattle to it. Callers
+//! in Rust are checked by the call itself, before it changes anything:
+//!
+//! |you pass|the call|
+//! |---|---|
+//! |a field of another struct, or of another set|returns `FieldNotFound`; `is_active` returns false|
+//! |a struct, list or enum of another set|returns `TypeMismatch`, except for an untyped field, which takes it|
+//! |schemas or structs of two sets, to be compared|returns `TypeMismatch`|
+//! |an index past the end of a list that is built|returns `NoSuchElement`|
+//! |an index past the end of a list that is read|returns zero, false, null or an empty value|
+//! |an index past the end of a list of fields, enumerants or annotations|panics|
+//! |a type that the value is not of, to `downcast`|panics|
+//! |a number, bit or pointer outside a struct or list without a schema, or more bytes than a text has room for|panics|
+//!
+//! A panic's message says what is wrong, as "the index 5 is not below the length 3". The page of a call says which of
+//! these it does. What a condition says of the place where a handle stands holds for each handle that the crate hands out:
+//! the fields of handles are private. Two loads of one schema are two sets, and a set is known by its address.
+//!
+//! The names in brackets, as `BelongsTo`, are definitions of the proof: `docs/DEFINITIONS.md` and the folders `specs/` have
+//! them. There is no `unsafe` in the crate.
 //!
 //! # Walks
 //!
-//! A null struct reads as its default. Of a struct that has a field of its own kind that is a struct with such a null
-//! again, without an end: a walk over all fields asks `has` before `get`, as the printer does. Pointers of a message may
-//! share a target, so a walk can be far longer than the message: [`printer::print_within`] has a limit.
+//! A null struct reads as its default. If a struct has a field of its own type, that field is a struct with such a null
+//! again, without end: a walk over all fields asks `has` before `get`, as the printer does. Pointers of a message may share
+//! a target, so a walk can be far longer than the message: [`printer::print_within`] takes a limit.
 //!
-//! # Memory
+//! # Memory and stack
 //!
-//! Want of memory is an answer: calls that may take memory answer a `Result`, and most are given the allocator,
-//! [`memory::Global`]. The stack is no answer, so walks of a message have a bound: a received one is read 64 levels down,
-//! one that is built 129. Where a built one is deeper, calls that measure, write or compact it are refused with
-//! `OutOfMemory`, and copies with `TooDeep`. Groups and the steps of a path have no bound yet: some thousand of them can
-//! overflow the stack, which ends the program.
+//! Running out of memory is an error, not an abort: every call that may allocate returns a `Result`, and most take the
+//! allocator, [`memory::Global`].
+//!
+//! Calls use a bounded stack, whatever they are given. A message that was received is read 64 levels down, one that is
+//! built 129. If a built message is deeper, calls that measure, write or compact it return `OutOfMemory`, and copies
+//! `TooDeep`. Groups inside one another, the steps of a path and the lists around a type take no more stack the more there
+//! are: tests go through 65,535 groups and paths of 1,000,000 steps in a thread with a stack of 512 KiB.
+//!
+//! # Overflow
+//!
+//! Sums are proved not to overflow. To have them checked at run time too, set `overflow-checks = true` in your own profile;
+//! `rust/README.md` says what it costs.
 #![forbid(unsafe_code)]
 #![warn(missing_docs)]
 
@@ -51,6 +76,7 @@ compile_error!("the source is proved for a `usize` of 64 bits");
 #[path = "../std/mod.rs"]
 mod rattle_std;
 
+mod checks;
 mod conversions;
 mod one_call;
 
@@ -118,13 +144,13 @@ pub mod edits {
     pub use crate::capnp_edit_calls::acts::Act;
     pub use crate::capnp_edit_calls::appends::{append_all, list_all};
     pub use crate::capnp_edit_calls::change::{make_list, Change};
-    pub use crate::capnp_edit_calls::copy::{copy_part, PathCopy};
-    pub use crate::capnp_edit_calls::edit::{edit_list, ListEdit};
+    pub use crate::capnp_edit_calls::copy::PathCopy;
+    pub use crate::capnp_edit_calls::edit::ListEdit;
     pub use crate::capnp_edit_calls::message::{run_acts, run_acts_copied, run_acts_new};
     pub use crate::capnp_edits::added::{list_one, new_elements};
     pub use crate::capnp_edits::edit::{change_list, Edit};
     pub use crate::capnp_splices::read::read_list;
-    pub use crate::one_call::{edit_by_words, edit_bytes, Unreadable};
+    pub use crate::one_call::{copy_part, edit_by_words, edit_bytes, edit_list, Unreadable};
 }
 
 /// Types as values.
@@ -206,7 +232,6 @@ pub mod request {
 pub mod run {
     pub use crate::capnp_call::calls::{any_refused, is_refused, Call, Op, Plain, Reply, Step};
     pub use crate::capnp_call::message::{run_copied, run_new, whole_copied, whole_new, Run, MOST_WORDS};
-    pub use crate::capnp_call::runs::run_on;
     pub use crate::capnp_run::run::run;
 }
 
@@ -265,6 +290,35 @@ pub mod traits {
     };
     pub use crate::capnp_builders::traits::{FromPointerBuilder, Owned, OwnedStruct, SetterInput};
 }
+
+/// What callers can't write: the fields of a handle. This is built:
+///
+/// ```
+/// # use riftcalico::{dynamic_struct, memory::Global, message, schema::SchemaSet};
+/// # fn main() -> riftcalico::Result<()> {
+/// # let schemas = SchemaSet::from_request(include_bytes!("../../examples/addressbook.request"))?;
+/// let mut message = message::Builder::new(Global)?;
+/// let mut person = dynamic_struct::Builder::open(message.root(), schemas.get_struct_named("Person")?)?;
+/// person.set_named("id", 7u32.into())?;
+/// # Ok(())
+/// # }
+/// ```
+///
+/// and this is not:
+///
+/// ```compile_fail,E0616
+/// # use riftcalico::{dynamic_struct, memory::Global, message, schema::SchemaSet};
+/// # fn main() -> riftcalico::Result<()> {
+/// # let schemas = SchemaSet::from_request(include_bytes!("../../examples/addressbook.request"))?;
+/// let mut message = message::Builder::new(Global)?;
+/// let mut person = dynamic_struct::Builder::open(message.root(), schemas.get_struct_named("Person")?)?;
+/// person.place.start = 3;
+/// person.set_named("id", 7u32.into())?;
+/// # Ok(())
+/// # }
+/// ```
+#[cfg(doctest)]
+mod handles {}
 
 /// The programs, from the words that they are started with to their exit status.
 #[doc(hidden)]

@@ -7,6 +7,8 @@ use crate::capnp_diffs::change::Change;
 use crate::capnp_diffs::diff::find_changes;
 use crate::capnp_dynamic::{dynamic_struct, dynamic_value, printer};
 use crate::capnp_edit_calls::acts::Act;
+use crate::capnp_edit_calls::copy;
+use crate::capnp_edit_calls::edit::{self, ListEdit};
 use crate::capnp_edit_calls::message::run_acts_copied;
 use crate::capnp_patch::reach::read_path;
 use crate::capnp_schema::schema::{Field, StructSchema};
@@ -14,6 +16,7 @@ use crate::capnp_schema::set::SchemaSet;
 use crate::capnp_wire::message::Reader;
 use crate::capnp_words::call::{CallWord, WordOp};
 use crate::capnp_words::path::{parse_path, Path, PathStep};
+use crate::checks;
 use crate::rattle_std::alloc::{AllocError, Global};
 use crate::rattle_std::string::String;
 use crate::rattle_std::vec::Vec as HeldVec;
@@ -57,9 +60,11 @@ impl<'a> dynamic_struct::Builder<'a> {
     /// Sets a field of the struct's schema to the value that a text stands for under its type, as `riftcalico patch` reads
     /// it: a struct, group or list as it is printed or as JSON, a text in quotes or as it stands.
     ///
-    /// The inner refusal is the place of the first byte that can't stand there. Refused, too, as
-    /// [`dynamic_struct::Builder::set`]; nothing is set where no value was read.
+    /// The inner error is the place of the first byte that can't stand there. Returns an error, too, as
+    /// [`dynamic_struct::Builder::set`] does: `FieldNotFound` for a field of another struct or of another set. Nothing is
+    /// set where no value was read.
     pub fn set_from_text(&mut self, field: Field<'a>, text: &str) -> Result<std::result::Result<(), usize>> {
+        checks::field(field, self.schema)?;
         let mut steps = HeldVec::new(Global);
         steps.push(PathStep::Field(field.get_index()))?;
         let mut bytes = HeldVec::new(Global);
@@ -113,6 +118,27 @@ pub fn edit_bytes(bytes: &[u8], schema: StructSchema<'_>, acts: &[Act<'_>]) -> R
     let source = Reader::new(Global, bytes)?.get_root();
     let left = run_acts_copied(Global, MOST_WORDS, source, schema, acts)?;
     Ok((left.replies.into(), left.message.write_message()?.into()))
+}
+
+/// Edits the list that a path of a struct names: a list of its elements after the edit is made in a message of its own, and
+/// then put in the place of what stands there. A list that is not there is its default, or has no elements.
+///
+/// The reply is a refusal where the list can't be read; `TypeMismatch` where no list stands at the end of the path, or a
+/// value of the edit is of another type or set; as [`crate::edits::make_list`]; and as a set of the list. Before the list is
+/// made nothing has changed.
+pub fn edit_list(alloc: Global, root: dynamic_struct::Builder<'_>, list_edit: &ListEdit<'_>) -> Reply {
+    let dynamic_struct::Builder { arena, place, schema } = root;
+    edit::edit_list(alloc, arena, place, schema, list_edit)
+}
+
+/// Sets what a path of a struct names to a copy of what stands at the end of another one, which stays as it is. The copy is
+/// made first, so either path may lead through the other.
+///
+/// The reply is a refusal where nothing can be read there, where a pointer in it can't be followed, and as a set of the copy.
+/// Before the copy is made nothing has changed.
+pub fn copy_part(alloc: Global, root: dynamic_struct::Builder<'_>, path: &[Step<'_>], from: &[Step<'_>]) -> Reply {
+    let dynamic_struct::Builder { arena, place, schema } = root;
+    copy::copy_part(alloc, arena, place, schema, path, from)
 }
 
 /// What calls, edits and copies that words say leave of the root of the first message in these bytes: the words of

@@ -15,7 +15,6 @@ pub mod process;
 pub mod rt;
 pub mod slice;
 pub mod string;
-pub mod test;
 pub mod vec;
 
 pub use std::{cmp, fmt, hash, marker, mem, result, str};
@@ -25,8 +24,6 @@ pub(crate) use macros::{rattle_format, rattle_vec};
 /// The names that each file has without an import.
 pub mod prelude {
     pub use super::rt::HostRuntime;
-    #[allow(unused_imports, reason = "tests alone repeat texts")]
-    pub use super::string::RepeatGiven;
     pub use super::string::String;
     pub use super::vec::{CollectGiven, SliceGiven, Vec};
 }

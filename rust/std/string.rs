@@ -109,21 +109,3 @@ impl From<String> for std::string::String {
         text.0
     }
 }
-
-/// Repeating a text, whose memory can be refused.
-pub trait RepeatGiven {
-    /// The text so many times.
-    fn repeat_given(&self, alloc: Global, count: usize) -> Result<String, AllocError>;
-}
-
-impl RepeatGiven for str {
-    fn repeat_given(&self, alloc: Global, count: usize) -> Result<String, AllocError> {
-        let mut text = String::new(alloc);
-        text.0
-            .try_reserve_exact(self.len().checked_mul(count).ok_or(AllocError)?)?;
-        for _ in 0..count {
-            text.0.push_str(self);
-        }
-        Ok(text)
-    }
-}

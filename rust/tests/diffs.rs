@@ -6,8 +6,8 @@ use crate::capnp_call::message::{run_copied, Run, MOST_WORDS};
 use crate::capnp_diffs::change::{as_calls, Change};
 use crate::capnp_diffs::diff::find_changes;
 use crate::capnp_dynamic::{dynamic_struct, dynamic_value, printer};
-use crate::capnp_fixtures::kinds::{FULL, KINDS, KINDS_SET};
-use crate::capnp_fixtures::set_text::read_set_text;
+use crate::fixtures::kinds::{FULL, KINDS, KINDS_SET};
+use crate::fixtures::set_text::set_of;
 use crate::capnp_patch::reach::read_path;
 use crate::capnp_schema::schema::StructSchema;
 use crate::capnp_schema::set::SchemaSet;
@@ -35,7 +35,7 @@ fn steps_of(path: &str) -> Vec<Step<'_>> {
 }
 
 fn kinds_set() -> SchemaSet {
-    read_set_text(Global, KINDS_SET).expect("it is a set")
+    set_of(KINDS_SET)
 }
 
 fn full_root() -> PointerReader<'static> {

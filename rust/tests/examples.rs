@@ -8,6 +8,9 @@ mod address_book;
 #[path = "../examples/build_message.rs"]
 mod build_message;
 #[allow(dead_code, reason = "its main is not called")]
+#[path = "../examples/first_steps.rs"]
+mod first_steps;
+#[allow(dead_code, reason = "its main is not called")]
 #[path = "../examples/older_program.rs"]
 mod older_program;
 #[allow(dead_code, reason = "its main is not called")]
@@ -16,6 +19,8 @@ mod query_schema;
 #[allow(dead_code, reason = "its main is not called")]
 #[path = "../examples/sum_numbers.rs"]
 mod sum_numbers;
+
+use riftcalico::{message, patch, printer, schema::SchemaSet};
 
 const REQUEST: &[u8] = include_bytes!("../../examples/addressbook.request");
 const BOOK: &[u8] = include_bytes!("../../examples/addressbook.bin");
@@ -38,6 +43,18 @@ fn an_address_book_is_read_and_patched() {
         "phones = [(number = \"555-1212\", type = mobile)], employment = (school = \"MIT\"))])\n",
     );
     assert_eq!(address_book::lines(REQUEST, BOOK).expect("it is answered"), wanted);
+}
+
+#[test]
+fn the_first_steps_patch_the_book() {
+    let patched = first_steps::patch_book(REQUEST, BOOK).expect("it is answered");
+    let schemas = SchemaSet::from_request(REQUEST).expect("the request is whole");
+    let schema = schemas.get_struct_named("AddressBook").expect("it has the struct");
+    let root = message::read_root(&patched, schema).expect("it is a message");
+    for (path, wanted) in [("people.1.email", "\"bob@example.org\""), ("people.2.name", "\"Carol\""), ("people.2.id", "789")] {
+        let value = patch::get_path(root.into(), path).expect("it is there");
+        assert_eq!(printer::to_string(value, false).expect("it is printed"), wanted);
+    }
 }
 
 #[test]

@@ -2,8 +2,8 @@
 
 use crate::capnp_call::calls::Step;
 use crate::capnp_dynamic::{dynamic_struct, dynamic_value, printer};
-use crate::capnp_fixtures::kinds::{FULL, KINDS, KINDS_SET};
-use crate::capnp_fixtures::set_text::read_set_text;
+use crate::fixtures::kinds::{FULL, KINDS, KINDS_SET};
+use crate::fixtures::set_text::set_of;
 use crate::capnp_patch::reach::read_path;
 use crate::capnp_schema::builtin;
 use crate::capnp_schema::schema::StructSchema;
@@ -15,7 +15,7 @@ use crate::riftcalico_core::calls::{make_values, read_all_calls, read_calls, Giv
 type Value<'a> = dynamic_value::Reader<'a>;
 
 fn kinds_set() -> SchemaSet {
-    read_set_text(Global, KINDS_SET).expect("it is a set")
+    set_of(KINDS_SET)
 }
 
 fn text_of(value: Value<'_>, indented: bool) -> String {

@@ -10,8 +10,8 @@ use crate::capnp_edit_calls::copy::PathCopy;
 use crate::capnp_edit_calls::edit::ListEdit;
 use crate::capnp_edit_calls::message::{run_acts_copied, run_acts_new};
 use crate::capnp_edits::added::list_one;
-use crate::capnp_fixtures::kinds::{FULL, KINDS, KINDS_SET};
-use crate::capnp_fixtures::set_text::read_set_text;
+use crate::fixtures::kinds::{FULL, KINDS, KINDS_SET};
+use crate::fixtures::set_text::set_of;
 use crate::capnp_patch::reach::read_path;
 use crate::capnp_schema::schema::StructSchema;
 use crate::capnp_schema::set::SchemaSet;
@@ -60,7 +60,7 @@ fn full_root() -> PointerReader<'static> {
 }
 
 fn kinds_set() -> SchemaSet {
-    read_set_text(Global, KINDS_SET).expect("it is a set")
+    set_of(KINDS_SET)
 }
 
 /// One change of a message with all lists: the text of the list then, or the refusal, which leaves all as it was.
@@ -169,7 +169,7 @@ fn unknown_parts_stay() {
     let schema = set.struct_schema(KINDS);
     let points = steps_of("points");
     let root = seen(full_root(), schema, &[]);
-    let whole = crate::capnp_fixtures::fixtures::struct_type(KINDS);
+    let whole = crate::fixtures::records::struct_type(KINDS);
     let made = list_one(Global, &set, whole, root).expect("it is a list");
     let larger = dynamic_list::Reader::new(read_list(&made).expect("it is read"), whole, &set);
     let point = seen(full_root(), schema, &steps_of("point"));

@@ -4,7 +4,6 @@
     reason = "an allocator can't be written without; each call is handed on as it came"
 )]
 
-use crate::rattle_std::test::is_refused;
 use std::alloc::{GlobalAlloc, Layout, System};
 use std::cell::Cell;
 use std::ptr::null_mut;
@@ -31,6 +30,77 @@ pub fn most_held<T>(act: impl FnOnce() -> T) -> (T, isize) {
     HELD.set((0, 0));
     let answer = act();
     (answer, HELD.get().1)
+}
+
+/// The requests for memory of an act that have been made, and which of them is refused.
+#[derive(Clone, Copy)]
+struct Watch {
+    made: u64,
+    refused: u64,
+}
+
+thread_local! {
+    /// What this thread's act is watched by. It is read by an allocator, so it must not take memory itself.
+    static WATCHED: Cell<Option<Watch>> = const { Cell::new(None) };
+}
+
+/// Counts a request for memory, and answers whether it is the one to be refused.
+fn is_refused() -> bool {
+    let count = |watched: &Cell<Option<Watch>>| {
+        let Some(watch) = watched.get() else {
+            return false;
+        };
+        let made = watch.made + 1;
+        watched.set(Some(Watch { made, ..watch }));
+        // a panic takes memory to say what is wrong
+        made == watch.refused && !std::thread::panicking()
+    };
+    WATCHED.try_with(count).unwrap_or(false)
+}
+
+/// Stops watching when it goes, also by a panic.
+struct Watching;
+
+impl Drop for Watching {
+    fn drop(&mut self) {
+        WATCHED.set(None);
+    }
+}
+
+/// Does something with its request for memory of this number refused, from 1 on. Answers what it answers, and whether
+/// it made so many requests.
+pub fn with_refused<T>(number: u64, act: impl FnOnce() -> T) -> (T, bool) {
+    WATCHED.set(Some(Watch {
+        made: 0,
+        refused: number,
+    }));
+    let watching = Watching;
+    let answer = act();
+    let made = WATCHED.get().map_or(0, |watch| watch.made);
+    drop(watching);
+    (answer, made >= number)
+}
+
+/// Does something again and again, with each of its requests for memory refused in turn, until none is. Hands each answer
+/// on, with whether a request was refused. Answers how many requests there are.
+///
+/// What is done may only call the layer: Rust's own collections end the program where memory is refused. What it needs is
+/// made before, and what it leaves is looked at in `see`.
+pub fn refuse_each<S, T>(
+    mut start: impl FnMut() -> S,
+    act: impl Fn(&mut S) -> T,
+    mut see: impl FnMut(S, T, bool),
+) -> u64 {
+    let mut number = 1;
+    loop {
+        let mut state = start();
+        let (answer, is_refused) = with_refused(number, || act(&mut state));
+        see(state, answer, is_refused);
+        if !is_refused {
+            return number - 1;
+        }
+        number += 1;
+    }
 }
 
 struct Refusing;

@@ -8,12 +8,17 @@ mod translate;
 use std::collections::BTreeSet;
 use std::fs;
 use std::path::{Path, PathBuf};
+use translate::checks::{CASES, CHECKS};
+use translate::handles::{HANDLES, MESSAGE, MESSAGE_CALLS, RAW_CALLS, SEEN};
 use translate::workspace::Workspace;
 use translate::{Kind, Place, Rule, Translation, Words, RULES};
 
 /// A source file of a crate.
+#[derive(Clone)]
 struct Source {
     library: String,
+    /// Its path below the crate's `src`.
+    file: String,
     path: PathBuf,
     text: String,
 }
@@ -32,6 +37,7 @@ fn sources() -> Vec<Source> {
             let text = fs::read_to_string(&path).expect("a source file");
             sources.push(Source {
                 library: library.clone(),
+                file: file.display().to_string(),
                 path,
                 text,
             });
@@ -48,9 +54,13 @@ fn libraries() -> Vec<String> {
 fn translated<'a>(source: &'a Source, libraries: &[String]) -> Translation<'a> {
     let place = Place {
         library: &source.library,
+        file: &source.file,
         libraries,
     };
-    Translation::new(&place, &source.text).unwrap_or_else(|lines| panic!("{}: {lines:?}", source.path.display()))
+    let path = source.path.display();
+    let translation = Translation::new(&place, &source.text).unwrap_or_else(|lines| panic!("{path}: {lines:?}"));
+    assert!(translation.missing().is_empty(), "{path}: {:?}", translation.missing());
+    translation
 }
 
 #[test]
@@ -179,20 +189,75 @@ fn searched(rule: Rule, sources: &[Source], taken: &[(Rule, String)]) -> usize {
         Rule::Formatter => 2 * has("Formatter<W>"),
         Rule::ErrorDerive => 2 * has("thiserror::Error") + starts(&["#[error("]),
         Rule::DerivedWhere => 2 * starts(&["#[derive_where("]) - starts(&["#[derive_where(skip"]),
-        Rule::AbortGuard => has("!(rt;") + has("!(&rt;") + starts(&["rt;", "&rt;"]),
-        Rule::TestRuntime => 2 * (has("(rt: HostRuntime)") - starts(&["fn main("])),
         Rule::Main => starts(&["fn main("]),
         Rule::Prelude => sources.len(),
         Rule::CratePath => paths(&["crate".to_string()], sources, taken),
         Rule::StdPath => paths(&["std".to_string()], sources, taken),
         Rule::LibraryPath => paths(&libraries(), sources, taken),
         Rule::Load => has("from_le_bytes(["),
-        Rule::AllocatedCall => has(".to_vec(") + has(".collect(") + has(".repeat("),
+        Rule::AllocatedCall => has(".to_vec(") + has(".collect("),
         Rule::DocExample => {
             let is_example = |line: &&str| line.starts_with("/// ```rust") || line.starts_with("//! ```rust");
             all_lines(sources).filter(is_example).count()
         }
+        _ => searched_for_callers(rule, sources),
     }
+}
+
+/// The same, of the rules for what callers in Rust get. A check that finds no call, or several, fails each test.
+fn searched_for_callers(rule: Rule, sources: &[Source]) -> usize {
+    let checks = CHECKS.iter().flat_map(|(_, _, checks)| *checks);
+    match rule {
+        Rule::HandleField => {
+            let handles: Vec<(&str, &str)> = HANDLES.iter().map(|(library, file, _)| (*library, *file)).collect();
+            let is_field = |line: &str| line.starts_with("pub ") && line.contains(": ") && line.ends_with(',');
+            lines(&files_at(sources, &handles), &is_field)
+        }
+        Rule::SeenField => SEEN.len(),
+        Rule::RawCall => {
+            message_calls(sources)
+                .filter(|name| !MESSAGE_CALLS.contains(name))
+                .count()
+                + RAW_CALLS.len()
+        }
+        Rule::Check => checks.filter(|(_, line, _)| !line.is_empty()).count(),
+        Rule::CheckDoc => checks.filter(|(_, _, told)| !told.is_empty()).count(),
+        _ => {
+            let cases: Vec<(&str, &str)> = CASES.iter().map(|(library, file, _)| (*library, *file)).collect();
+            lines(&files_at(sources, &cases), &|line| line.contains("unreachable!()"))
+        }
+    }
+}
+
+/// The sources at these places.
+fn files_at(sources: &[Source], places: &[(&str, &str)]) -> Vec<Source> {
+    let is_there = |source: &&Source| places.contains(&(source.library.as_str(), source.file.as_str()));
+    sources.iter().filter(is_there).cloned().collect()
+}
+
+/// The names of the public calls on messages that are built.
+fn message_calls(sources: &[Source]) -> impl Iterator<Item = &str> {
+    let files = sources.iter().filter(|source| source.library == MESSAGE.0);
+    files.flat_map(|source| {
+        let mut is_in = false;
+        source.text.lines().filter_map(move |line| {
+            if line.starts_with("impl") {
+                is_in = line == "impl Arena {";
+            }
+            let name = line.strip_prefix("    pub fn ").filter(|_| is_in)?;
+            name.split(['(', '<']).next()
+        })
+    })
+}
+
+#[test]
+fn the_calls_on_a_message_are_there() {
+    let sources = sources();
+    let mut names: Vec<&str> = message_calls(&sources)
+        .filter(|name| MESSAGE_CALLS.contains(name))
+        .collect();
+    names.sort_unstable();
+    assert_eq!(names, MESSAGE_CALLS);
 }
 
 /// The lines of parts that only the prover reads. What stands within a model is taken with it.
@@ -263,14 +328,16 @@ fn inside(rule: Rule, taken: &[(Rule, String)], search: &dyn Fn(&str) -> usize) 
 #[test]
 fn examples_translate_as_they_say() {
     let libraries = ["capnp_wire".to_string(), "capnp_device".to_string()];
-    let place = Place {
-        library: "capnp_wire",
-        libraries: &libraries,
-    };
     let mut wrong = Vec::new();
     for (number, told) in RULES.iter().enumerate() {
         assert_eq!(told.rule as usize, number, "{} stands elsewhere", told.name);
         assert_eq!(told.rule.told().name, told.name);
+        let (library, file) = told.place;
+        let place = Place {
+            library,
+            file,
+            libraries: &libraries,
+        };
         let translation = match Translation::new(&place, told.before) {
             Ok(translation) => translation,
             Err(lines) => {
@@ -429,7 +496,10 @@ const UNKNOWN: [(&str, &str); 71] = [
     ("mod capnp_device;", "1: the name capnp_device where no path begins"),
     ("use crate as c;", "1: the name crate where no path begins"),
     ("mod m {\n    fn f() {}\n}", "2: more than constants in a module"),
-    ("fn f(rt: HostRuntime) {}", "1: a runtime by value, of what is no test"),
+    (
+        "fn f(rt: HostRuntime) {}",
+        "1: a runtime by value, of what is no program",
+    ),
     // characters and brackets
     ("fn f() {\n    let µ = 1;\n}", "2: µ = 1;"),
     ("fn f() {} /* a */", "1: /* a */"),
@@ -496,6 +566,7 @@ fn what_could_be_read_wrongly_is_not() {
     let libraries = ["capnp_wire".to_string(), "capnp_device".to_string()];
     let place = Place {
         library: "capnp_wire",
+        file: "lib.rt",
         libraries: &libraries,
     };
     for (text, expected) in KNOWN {
@@ -511,6 +582,7 @@ fn what_is_not_known_is_refused() {
     let libraries = ["capnp_wire".to_string(), "capnp_device".to_string()];
     let place = Place {
         library: "capnp_wire",
+        file: "lib.rt",
         libraries: &libraries,
     };
     let mut wrong = Vec::new();

@@ -142,7 +142,7 @@ fn brackets_stand_64_deep() {
 // ---- values of a type ----
 
 fn root_text(message: &message::Builder, schema: StructSchema<'_>, indented: bool) -> String {
-    let root = message.get_pointer_reader(0).get_struct().expect("the root is a struct");
+    let root = message.as_reader().get_struct().expect("the root is a struct");
     to_string(Value::Struct(dynamic_struct::Reader::new(root, schema)), indented).expect("it has a print")
 }
 
@@ -290,7 +290,7 @@ fn try_elements(field: Field<'_>, value: Value<'_>) -> usize {
         }
         let print = to_string(element, index % 2 == 0).expect("it has a print");
         let made = read_element(Global, MOST_WORDS, field, 1, print.as_bytes()).unwrap_or_else(|error| panic!("{print}: {error:?}"));
-        let sections = made.get_pointer_reader(0).get_struct().expect("the root is a struct");
+        let sections = made.as_reader().get_struct().expect("the root is a struct");
         let left = dynamic_struct::Reader::new(sections, field.get_containing_struct()).get(field).expect("it can be read");
         let Value::List(alone) = left else {
             panic!("{print} is in no list");
@@ -329,7 +329,7 @@ fn try_fields(set: &SchemaSet, number: u32, bytes: &[u8]) -> (usize, usize) {
             continue;
         }
         let made = read_field(Global, MOST_WORDS, field, print.as_bytes()).unwrap_or_else(|error| panic!("{print}: {error:?}"));
-        let sections = made.get_pointer_reader(0).get_struct().expect("the root is a struct");
+        let sections = made.as_reader().get_struct().expect("the root is a struct");
         let left = dynamic_struct::Reader::new(sections, schema).get(field).expect("it can be read");
         assert_eq!(to_string(left, index % 2 == 0).expect("it has a print"), print);
         if field.get_group().is_none() {

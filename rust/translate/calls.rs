@@ -5,31 +5,16 @@ use super::rules::Rule;
 use super::tokens::{Kind, Words};
 
 /// Macros that mean the same, or for which `rust/std` has one of the same name.
-const MACROS: [&str; 9] = [
-    "assert",
-    "assert_eq",
-    "assert_ne",
-    "unreachable",
-    "panic",
-    "write",
-    "format",
-    "vec",
-    "matches",
-];
-
-/// Macros that may be given the runtime, which is the leave to end the program.
-const ASSERTIONS: [&str; 5] = ["assert", "assert_eq", "assert_ne", "unreachable", "panic"];
+const MACROS: [&str; 5] = ["unreachable", "write", "format", "vec", "matches"];
 
 /// Keywords behind which `!` is no macro's.
 const KEYWORDS: [&str; 7] = ["if", "while", "match", "return", "in", "else", "break"];
 
 /// Attributes that mean the same, and those that a rule reads: up to the bracket that ends them, or a bracket's start.
-const ATTRIBUTES: [&[&str]; 9] = [
+const ATTRIBUTES: [&[&str]; 7] = [
     &["[", "inline", "]"],
     &["[", "inline", "("],
     &["[", "cold", "]"],
-    &["[", "test", "]"],
-    &["[", "cfg", "(", "test", ")", "]"],
     &["[", "derive", "("],
     &["[", "derive_where", "("],
     &["[", "error", "("],
@@ -37,7 +22,7 @@ const ATTRIBUTES: [&[&str]; 9] = [
 ];
 
 /// Calls that take memory, each with how many arguments it has in Rust: one more is the allocator.
-const ALLOCATED: [(&str, usize); 3] = [("to_vec", 0), ("collect", 0), ("repeat", 1)];
+const ALLOCATED: [(&str, usize); 2] = [("to_vec", 0), ("collect", 0)];
 
 /// Names calls that are given an allocator as `rust/std` does.
 pub fn name_allocated_calls(words: &Words<'_>, edits: &mut Edits) {
@@ -67,24 +52,12 @@ fn count_arguments(words: &Words<'_>, open: usize, close: usize) -> usize {
     count
 }
 
-/// Takes the runtime that assertions are given, and refuses macros that are not known.
-pub fn free_assertions(words: &Words<'_>, edits: &mut Edits) {
+/// Refuses macros that are not known.
+pub fn know_macros(words: &Words<'_>, edits: &mut Edits) {
     for index in 0..words.list.len() {
-        if !is_macro(words, index) || words.at(index) == "prove" {
-            continue;
-        }
         let name = words.at(index);
-        let first = words.after(words.after(words.after(index)));
-        if !MACROS.contains(&name) {
+        if is_macro(words, index) && name != "prove" && !MACROS.contains(&name) {
             edits.refuse(words, index, format!("{name}!, a macro that is not known"));
-        }
-        let named = if words.at(first) == "&" {
-            words.after(first)
-        } else {
-            first
-        };
-        if ASSERTIONS.contains(&name) && words.reads(named, &["rt", ";"]) {
-            edits.take(words, Rule::AbortGuard, first, words.after(named));
         }
     }
 }
@@ -112,7 +85,7 @@ pub fn know_attributes(words: &Words<'_>, edits: &mut Edits) {
     }
 }
 
-/// Gives each test its runtime as its first statement, and shows what starts a program.
+/// Shows what starts a program, and refuses a runtime by value anywhere else.
 pub fn start_functions(words: &Words<'_>, edits: &mut Edits) {
     let parameter = ["(", "rt", ":", "HostRuntime", ")"];
     for index in 0..words.list.len() {
@@ -120,27 +93,12 @@ pub fn start_functions(words: &Words<'_>, edits: &mut Edits) {
             continue;
         }
         let name = words.after(index);
-        let open = words.after(name);
         if words.at(name) == "main" {
             edits.insert_before(words, Rule::Main, index, "pub(crate) ".to_string());
-        } else if words.reads(open, &parameter) {
-            let body = (open..words.list.len()).find(|at| words.at(*at) == "{");
-            let (Some(body), Some(close), true) = (body, words.closing(open), is_test(words, index)) else {
-                edits.refuse(words, index, "a runtime by value, of what is no test".to_string());
-                continue;
-            };
-            edits.take(words, Rule::TestRuntime, words.after(open), close - 1);
-            let statement = " let rt = crate::rattle_std::test::TestRuntime::begin();".to_string();
-            edits.insert_after(words, Rule::TestRuntime, body, statement);
+        } else if words.reads(words.after(name), &parameter) {
+            edits.refuse(words, index, "a runtime by value, of what is no program".to_string());
         }
     }
-}
-
-/// Whether `#[test]` stands between the end of what is before a function and the function.
-fn is_test(words: &Words<'_>, function: usize) -> bool {
-    let is_before = |at: &usize| matches!(words.at(*at), ";" | "{" | "}");
-    let first = (0..function).rev().find(is_before).map_or(0, |at| at + 1);
-    (first..function).any(|at| words.reads(at, &["#", "[", "test", "]"]))
 }
 
 /// Refuses modules within a file that take names from without: those of `rust/std` stand at the head of files alone. What

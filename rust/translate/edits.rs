@@ -25,6 +25,8 @@ pub struct Piece<'a> {
 pub struct Edits {
     pub list: Vec<Edit>,
     pub unknown: Vec<Unknown>,
+    /// What a table of a rule names in this file, and is not there.
+    pub missing: Vec<String>,
 }
 
 impl Edits {

@@ -2,9 +2,11 @@
 
 mod bounds;
 mod calls;
+pub mod checks;
 mod derives;
 mod edits;
 mod ghost;
+pub mod handles;
 mod loads;
 mod names;
 mod rules;
@@ -50,6 +52,11 @@ impl<'a> Translation<'a> {
         self.pieces().iter().map(|piece| piece.after).collect()
     }
 
+    /// What a table of a rule names in this file, and is not there: of a whole file nothing may be missing.
+    pub fn missing(&self) -> &[String] {
+        &self.edits.missing
+    }
+
     /// The file, part by part.
     pub fn pieces(&self) -> Vec<Piece<'_>> {
         self.edits.pieces(self.text)
@@ -66,11 +73,15 @@ fn apply_rules(words: &Words<'_>, place: &Place<'_>, edits: &mut Edits) {
     names::lead_paths(words, place, edits);
     loads::join_loads(words, edits);
     calls::name_allocated_calls(words, edits);
-    calls::free_assertions(words, edits);
+    calls::know_macros(words, edits);
     calls::know_attributes(words, edits);
     calls::start_functions(words, edits);
     calls::know_modules(words, edits);
     calls::begin_file(words, edits);
     calls::mark_examples(words, edits);
+    handles::own_fields(words, place, edits);
+    handles::own_raw_calls(words, place, edits);
+    checks::add_checks(words, place, edits);
+    checks::tell_cases(words, place, edits);
     ghost::take_models(words, edits);
 }

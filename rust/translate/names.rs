@@ -8,8 +8,17 @@ use super::tokens::{Kind, Words};
 pub struct Place<'a> {
     /// The library that is translated.
     pub library: &'a str,
+    /// The file of it, by its path below `src`.
+    pub file: &'a str,
     /// All libraries.
     pub libraries: &'a [String],
+}
+
+impl Place<'_> {
+    /// Whether this is a file of a library.
+    pub fn is_at(&self, library: &str, file: &str) -> bool {
+        self.library == library && self.file == file
+    }
 }
 
 /// Leads each path to its module. A name of a path's head may stand nowhere else, where it could mean something else.

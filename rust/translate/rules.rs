@@ -20,11 +20,15 @@ pub enum Rule {
     StdPath,
     Load,
     AllocatedCall,
-    AbortGuard,
-    TestRuntime,
     Main,
     Prelude,
     DocExample,
+    HandleField,
+    SeenField,
+    RawCall,
+    Check,
+    CheckDoc,
+    ExcludedCase,
 }
 
 /// A rule as it is told: its name, why it is there, a line that it changes, and what becomes of it.
@@ -32,6 +36,8 @@ pub struct Told {
     pub rule: Rule,
     pub name: &'static str,
     pub reason: &'static str,
+    /// The library and the file where that line stands.
+    pub place: (&'static str, &'static str),
     pub before: &'static str,
     pub after: &'static str,
 }
@@ -41,13 +47,24 @@ const fn told(rule: Rule, name: &'static str, reason: &'static str, before: &'st
         rule,
         name,
         reason,
+        place: ("capnp_wire", "lib.rt"),
         before,
         after,
     }
 }
 
-/// Every rule. The examples are those of a library `capnp_wire`, and have to translate as they say.
-pub const RULES: [Told; 22] = [
+impl Told {
+    /// The same rule, of a file of another library.
+    const fn at(self, library: &'static str, file: &'static str) -> Told {
+        Told {
+            place: (library, file),
+            ..self
+        }
+    }
+}
+
+/// Every rule. The examples have to translate as they say.
+pub const RULES: [Told; 26] = [
     told(
         Rule::GhostUse,
         "ghost use",
@@ -162,20 +179,6 @@ pub const RULES: [Told; 22] = [
         "let a = b.to_vec_given(alloc)?;",
     ),
     told(
-        Rule::AbortGuard,
-        "abort guard",
-        "in Rust an assertion needs no leave to end a test",
-        "assert!(rt; a == b);",
-        "assert!( a == b);",
-    ),
-    told(
-        Rule::TestRuntime,
-        "test runtime",
-        "a test of Rust is given nothing; this runtime knows where the test ends",
-        "#[test]\nfn t(rt: HostRuntime) { f(&rt); }",
-        "#[test]\nfn t() { let rt = crate::rattle_std::test::TestRuntime::begin(); f(&rt); }",
-    ),
-    told(
         Rule::Main,
         "main",
         "what starts a program stands in another file",
@@ -196,6 +199,54 @@ pub const RULES: [Told; 22] = [
         "/// ```rust\nfn f() {}",
         "/// ```rust,ignore\nfn f() {}",
     ),
+    told(
+        Rule::HandleField,
+        "handle's field",
+        "a caller in Rust could write the field, and then write what is not the handle's",
+        "pub struct PointerBuilder<'a> {\n    pub arena: &'a mut Arena,\n    pub at: usize,\n}",
+        "pub struct PointerBuilder<'a> {\n    pub(crate) arena: &'a mut Arena,\n    pub(crate) at: usize,\n}",
+    )
+    .at("capnp_arena", "pointer_builder.rt"),
+    told(
+        Rule::SeenField,
+        "seen field",
+        "a check looks at the field",
+        "pub struct Enum<'a> {\n    value: u16,\n    schema: EnumSchema<'a>,\n}",
+        "pub struct Enum<'a> {\n    value: u16,\n    pub(crate) schema: EnumSchema<'a>,\n}",
+    )
+    .at("capnp_dynamic_readers", "dynamic_value.rt"),
+    told(
+        Rule::RawCall,
+        "raw call",
+        "a call by positions of words, or of unchecked parts, is the crate's own",
+        "impl Arena {\n    pub fn clear(&mut self, at: usize) {}\n}",
+        "impl Arena {\n    pub(crate) fn clear(&mut self, at: usize) {}\n}",
+    )
+    .at("capnp_arena", "arena.rt"),
+    told(
+        Rule::Check,
+        "check",
+        "the prover holds a caller in Rattle to the condition; of a caller in Rust the call asks it",
+        "impl Builder {\n    fn get(self, index: u32) {}\n}",
+        "impl Builder {\n    #[doc = \"\"] #[doc = \"This crate checks the index: one past the end is refused with `NoSuchElement`.\"] fn get(self, index: u32) { crate::checks::element(index, self.arena.get_length(self.at))?;}\n}",
+    )
+    .at("capnp_dynamic", "hand_element.rt"),
+    told(
+        Rule::CheckDoc,
+        "told check",
+        "the page of a checked call says what the check does",
+        "impl FieldList {\n    /// The field.\n    pub fn get(self, index: u16) -> Field<'s> {}\n}",
+        "impl FieldList {\n    /// The field.\n    #[doc = \"\"] #[doc = \"This crate checks the condition, and panics otherwise.\"] pub fn get(self, index: u16) -> Field<'s> {}\n}",
+    )
+    .at("capnp_schema", "schema/field_list.rt"),
+    told(
+        Rule::ExcludedCase,
+        "excluded case",
+        "a case that a condition excludes says which condition is broken",
+        "fn f() {\n    unreachable!()\n}",
+        "fn f() {\n    crate::checks::other_kind()\n}",
+    )
+    .at("capnp_dynamic_readers", "dynamic_value/conversions.rt"),
 ];
 
 impl Rule {

@@ -1,6 +1,6 @@
 //! The repository's crates, and the files that are made of them.
 
-use super::{Place, Translation};
+use super::{checks, handles, Place, Translation};
 use std::collections::BTreeSet;
 use std::fs;
 use std::io::{Error, Result};
@@ -10,7 +10,7 @@ use std::path::{Path, PathBuf};
 #[derive(Clone, Debug, PartialEq, Eq)]
 pub struct Crate {
     pub name: String,
-    /// The crates that it stands on.
+    /// The crates that it names; these may name others.
     pub below: Vec<String>,
     /// Whether it is a static library for programs in C.
     pub is_static: bool,
@@ -64,12 +64,14 @@ impl Workspace {
         self.crates.iter().map(|one| one.name.clone()).collect()
     }
 
-    /// The programs, and the crates that these and the face stand on, in the order of the list.
-    pub fn production(&self) -> Vec<&Crate> {
-        let mut wanted: BTreeSet<&str> = BTreeSet::from(PROGRAMS);
-        for one in &self.crates {
-            if one.name == FACE || PROGRAMS.contains(&one.name.as_str()) {
-                wanted.extend(one.below.iter().map(String::as_str));
+    /// The crates of these names, and all that they stand on, in the order of the list.
+    pub fn with_all_below<'a>(&'a self, names: impl IntoIterator<Item = &'a str>) -> Vec<&'a Crate> {
+        let mut wanted: BTreeSet<&str> = BTreeSet::new();
+        let mut waiting: Vec<&str> = names.into_iter().collect();
+        while let Some(name) = waiting.pop() {
+            if wanted.insert(name) {
+                let found = self.crates.iter().find(|one| one.name == name);
+                waiting.extend(found.iter().flat_map(|one| one.below.iter().map(String::as_str)));
             }
         }
         self.crates
@@ -78,7 +80,15 @@ impl Workspace {
             .collect()
     }
 
-    /// The crates that serve tests alone.
+    /// The programs, and all crates that these and the face stand on, in the order of the list.
+    pub fn production(&self) -> Vec<&Crate> {
+        // the face of the cargo crate itself is written in Rust
+        let mut crates = self.with_all_below(PROGRAMS.into_iter().chain([FACE]));
+        crates.retain(|one| one.name != FACE);
+        crates
+    }
+
+    /// The libraries that neither the programs nor the face stand on, proved callers and laws, which tests call.
     pub fn tests(&self) -> Vec<&Crate> {
         let production = self.production();
         let is_test = |one: &&Crate| !one.is_static && !one.is_program && !production.contains(one);
@@ -112,14 +122,29 @@ impl Workspace {
     /// Translates the files of a crate into a folder. What no rule knows is told with its file, line and words.
     pub fn write(&self, one: &Crate, folder: &Path) -> Result<()> {
         let libraries = self.names();
-        let place = Place {
-            library: &one.name,
-            libraries: &libraries,
-        };
-        for file in self.files(&one.name)? {
+        let files = self.files(&one.name)?;
+        let named = checks::files_of(&one.name).chain(handles::files_of(&one.name));
+        if let Some(missing) = named
+            .into_iter()
+            .find(|file| !files.iter().any(|one| one == Path::new(file)))
+        {
+            return Err(Error::other(format!(
+                "{}: no file {missing}, which has a check",
+                one.name
+            )));
+        }
+        for file in files {
             let path = self.path(&one.name, &file);
             let text = fs::read_to_string(&path)?;
+            let place = Place {
+                library: &one.name,
+                file: &file.to_string_lossy(),
+                libraries: &libraries,
+            };
             let translation = Translation::new(&place, &text).map_err(|lines| told(&path, &lines))?;
+            if !translation.missing().is_empty() {
+                return Err(told(&path, translation.missing()));
+            }
             let target = folder.join(&one.name).join(file.with_extension("rs"));
             fs::create_dir_all(target.parent().unwrap_or(folder))?;
             write_changed(&target, &translation.rust())?;

@@ -8,6 +8,10 @@
 #[path = "../../std/mod.rs"]
 mod rattle_std;
 
+#[allow(dead_code, reason = "what is timed takes some of them")]
+#[path = "../../src/checks.rs"]
+mod checks;
+
 /// The bytes at a pointer. A message without bytes may stand at no address.
 ///
 /// # Safety
