@@ -1,5 +1,5 @@
-// Times this library and the C++ library side by side and prints one table. Its words are the folder of schema.capnp, one for
-// large files, our two programs, and the two that cargo built, where it is there.
+// Times this library and the C++ library side by side and prints one table. Its arguments are the folder of schema.capnp, one
+// for large files, and our two programs, of each build that is timed: proved, and built by cargo.
 #include "diffs.h"
 #include "documents.h"
 #include "json.h"
@@ -17,10 +17,16 @@
 #include <kj/filesystem.h>
 
 int main(int count, char **words) {
-  if (count != (HAS_CARGO ? 7 : 5)) {
-    std::fprintf(stderr, "usage: bench FOLDER SCRATCH CAPNP_SHOW RIFTCALICO%s\n", HAS_CARGO ? " CARGO_CAPNP_SHOW CARGO_RIFTCALICO" : "");
+  // where the programs of a build stand in the words
+  constexpr int PROVED = 3, CARGO = HAS_PROVED ? 5 : 3;
+  if (count != 3 + (HAS_PROVED ? 2 : 0) + (HAS_CARGO ? 2 : 0)) {
+    std::fprintf(stderr, "usage: bench FOLDER SCRATCH%s%s\n", HAS_PROVED ? " CAPNP_SHOW RIFTCALICO" : "",
+                 HAS_CARGO ? " CARGO_CAPNP_SHOW CARGO_RIFTCALICO" : "");
     return 2;
   }
+  auto program_at = [&](int at) {
+    return program::OurProgram{HAS_PROVED ? words[PROVED + at] : "", HAS_CARGO ? words[CARGO + at] : ""};
+  };
   documents::tell_memory();
   auto disk = kj::newDiskFilesystem();
   auto folder = disk->getRoot().openSubdir(disk->getCurrentPath().evalNative(words[1]));
@@ -38,7 +44,7 @@ int main(int count, char **words) {
   requests::add_rows(table);
   prints::add_rows(table, file.getNested("Lists").asStruct());
   json::add_rows(table);
-  program::OurProgram shows{words[3], HAS_CARGO ? words[5] : ""}, patches{words[4], HAS_CARGO ? words[6] : ""};
+  program::OurProgram shows = program_at(0), patches = program_at(1);
   program::add_rows(table, file.getNested("Lists").asStruct(), words[1], words[2], shows, patches);
   diffs::add_rows(table, words[2], patches);
   return table.status();

@@ -125,7 +125,7 @@ inline void tell_memory() {
   auto source = document();
   auto patching = with(ours::patch_document, source.data(), source.size());
   long before = memory_of([](uint64_t) { return 0; });
-  long ours = memory_of(patching.proved) - before;
+  long ours = memory_of(patching.first()) - before;
   long theirs = memory_of([&](uint64_t rounds) { return patch(source, rounds); }) - before;
   std::printf("\nThe patch of a document of %.1f MB took %.1f MB more, the other side %.1f MB: %.2f of it.\n\n", source.size() / 1e6, ours / 1e6,
               theirs / 1e6, double(ours) / theirs);

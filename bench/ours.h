@@ -1,16 +1,25 @@
 // The calls of our static libraries that are timed, each a whole row's work. A call does its work `rounds` times over the
-// same message and answers a checksum, which has to be that of the C++ library's work. Each is there twice: in the proved
-// libraries, and with `rust_` before its name in the library that cargo builds of the same source, where cargo is there.
+// same message and returns a checksum, which has to be that of the C++ library's work. Two libraries have them, and one or
+// both are timed: the proved one (WITH_PROVED), and the one that cargo builds of the same source (WITH_CARGO), in which
+// `rust_` stands before each name.
 #pragma once
 #include <cstddef>
 #include <cstdint>
 
 using OurFunction = uint64_t(const uint8_t *message, size_t length, uint64_t rounds);
 
-// a call as the proved libraries have it, and as cargo built it, or null
+// a call as the proved library has it, and as cargo built it; null in a library that is not timed
 struct OurCall {
   OurFunction *proved, *cargo;
 };
+
+#ifdef WITH_PROVED
+constexpr bool HAS_PROVED = true;
+#define PROVED_CALL(NAME) bench_##NAME
+#else
+constexpr bool HAS_PROVED = false;
+#define PROVED_CALL(NAME) nullptr
+#endif
 
 #ifdef WITH_CARGO
 constexpr bool HAS_CARGO = true;
@@ -23,7 +32,7 @@ constexpr bool HAS_CARGO = false;
 #define CALL(NAME)                                                                                                               \
   extern "C" OurFunction bench_##NAME, rust_bench_##NAME;                                                                        \
   namespace ours {                                                                                                               \
-  constexpr OurCall NAME{bench_##NAME, CARGO_CALL(NAME)};                                                                        \
+  constexpr OurCall NAME{PROVED_CALL(NAME), CARGO_CALL(NAME)};                                                                   \
   }
 
 CALL(read_by_name_opened)
@@ -73,4 +82,5 @@ CALL(arena_limit)
 CALL(wire_encode)
 
 #undef CALL
+#undef PROVED_CALL
 #undef CARGO_CALL

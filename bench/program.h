@@ -1,5 +1,6 @@
-// The rows of whole programs over a message of 50 MB: printed, patched, and one value of it shown, by ours, by what cargo built
-// of ours and by the public tool or library. The time is the processor time of the process, the best of three.
+// The rows of whole programs over a message of 50 MB: printed, patched, and one value of it shown, by ours, proved and as cargo
+// built it, each if it is timed, and by the public tool or library. The time is the processor time of the process, the best
+// of three.
 #pragma once
 #include "prints.h"
 #include <capnp/serialize.h>
@@ -20,13 +21,16 @@ struct Run {
   off_t written = 0;
 };
 
-// one of our programs: where it lies as it was proved, and where as cargo built it
+// one of our programs: where it lies as it was proved, and where as cargo built it; empty where one is not timed
 struct OurProgram {
   std::string proved, cargo;
 };
 
 struct OurRuns {
   Run proved, cargo;
+
+  // the run of the first column
+  const Run &first() const { return HAS_PROVED ? proved : cargo; }
 };
 
 // the standard input of each run, and its standard output
@@ -70,16 +74,19 @@ inline std::function<int()> program(std::vector<const char *> words) {
   };
 }
 
-// runs one of our programs on these words, and what cargo built of it, where it is there
+// runs one of our programs on these words, as each build has it that is timed
 inline OurRuns run_ours(const OurProgram &ours, std::vector<const char *> words, const Files &files) {
   OurRuns runs;
-  words.insert(words.begin(), ours.proved.c_str());
-  runs.proved = run(words[0], program(words), files);
-  if (!HAS_CARGO) return runs;
-  words[0] = ours.cargo.c_str();
-  runs.cargo = run(words[0], program(words), files);
-  if (runs.cargo.written != runs.proved.written) {
-    std::fprintf(stderr, "%s: wrote another number of bytes than %s\n", words[0], ours.proved.c_str());
+  auto run_build = [&](const std::string &path) {
+    words.insert(words.begin(), path.c_str());
+    Run done = run(words[0], program(words), files);
+    words.erase(words.begin());
+    return done;
+  };
+  if (HAS_PROVED) runs.proved = run_build(ours.proved);
+  if (HAS_CARGO) runs.cargo = run_build(ours.cargo);
+  if (HAS_PROVED && HAS_CARGO && runs.cargo.written != runs.proved.written) {
+    std::fprintf(stderr, "%s: wrote another number of bytes than %s\n", ours.cargo.c_str(), ours.proved.c_str());
     std::exit(1);
   }
   return runs;
@@ -142,9 +149,9 @@ inline void add_rows(Table &table, capnp::StructSchema lists, const std::string 
   Run found = run("the value in C++", [lists] { return get(lists); }, files);
   line(table, "the program, one value of it shown", got, found);
   line(table, "the program, one value of it shown; the public tool, all of it, to be cut", got, decoded);
-  tell_memory("The print", shown.proved, decoded, size);
-  tell_memory("The patch", patched.proved, other, size);
-  tell_memory("The value", got.proved, found, size);
+  tell_memory("The print", shown.first(), decoded, size);
+  tell_memory("The patch", patched.first(), other, size);
+  tell_memory("The value", got.first(), found, size);
   unlink(files.input.c_str());
   unlink(files.output.c_str());
 }

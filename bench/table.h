@@ -1,5 +1,6 @@
 // The table of the measurements: all sides of a row are timed in this process by the thread's own processor time, and the
-// best of many runs counts. Checksums that differ are an error. The columns of what cargo built are there where it is.
+// best of many runs counts. Checksums that differ are an error. The first column has the proved library, and the last two
+// what cargo built, each if it is timed; if cargo's build alone is, the first column has that.
 #pragma once
 #include "ours.h"
 #include <algorithm>
@@ -9,9 +10,12 @@
 
 using Work = std::function<uint64_t(uint64_t rounds)>;
 
-// our side of a row, as the proved libraries do it, and as the library does that cargo built, or nothing
+// our side of a row, as the proved library does it, and as the library does that cargo built; null where one is not timed
 struct OurWork {
   Work proved, cargo;
+
+  // the work of the first column
+  const Work &first() const { return HAS_PROVED ? proved : cargo; }
 };
 
 inline OurWork with(OurCall call, const uint8_t *message, size_t length) {
@@ -22,12 +26,14 @@ inline OurWork with(OurCall call, const uint8_t *message, size_t length) {
   return {work(call.proved), work(call.cargo)};
 }
 
-// what the sides of a row took, in nanoseconds; nothing of cargo's is read where it is not there
+// what the sides of a row took, in nanoseconds; a build that is not timed has no time that is read
 struct Times {
-  double ours, theirs, cargo;
+  double proved, theirs, cargo;
 };
 
 class Table {
+  static constexpr bool HAS_BOTH = HAS_PROVED && HAS_CARGO;
+
   bool differs = false;
 
   static double now() {
@@ -73,26 +79,27 @@ class Table {
 
   // times each side of a row by `time`, which answers a time and sets a checksum
   template <class Time> void measure(const char *name, double things, const OurWork &ours, const Work &theirs, Time time) {
-    uint64_t their_sum, our_sum, cargo_sum;
+    uint64_t their_sum, proved_sum, cargo_sum;
     Times times{};
     times.theirs = time(theirs, their_sum) / things;
-    times.ours = time(ours.proved, our_sum) / things;
+    if (HAS_PROVED) times.proved = time(ours.proved, proved_sum) / things;
     if (HAS_CARGO) times.cargo = time(ours.cargo, cargo_sum) / things;
     line(name, times);
-    check(name, "ours", our_sum, their_sum);
+    if (HAS_PROVED) check(name, "proved", proved_sum, their_sum);
     if (HAS_CARGO) check(name, "cargo", cargo_sum, their_sum);
   }
 
 public:
   Table() {
-    std::printf("| work | ours, ns | C++, ns | ratio |%s\n", HAS_CARGO ? " cargo, ns | to ours |" : "");
-    std::printf("| --- | --- | --- | --- |%s\n", HAS_CARGO ? " --- | --- |" : "");
+    std::printf("| work | %s, ns | C++, ns | ratio |%s\n", HAS_PROVED ? "proved" : "cargo", HAS_BOTH ? " cargo, ns | to proved |" : "");
+    std::printf("| --- | --- | --- | --- |%s\n", HAS_BOTH ? " --- | --- |" : "");
   }
 
   // a line of the table
   void line(const char *name, const Times &times) {
-    std::printf("| %s | %.1f | %.1f | %.2f |", name, times.ours, times.theirs, times.ours / times.theirs);
-    if (HAS_CARGO) std::printf(" %.1f | %.2f |", times.cargo, times.cargo / times.ours);
+    double first = HAS_PROVED ? times.proved : times.cargo;
+    std::printf("| %s | %.1f | %.1f | %.2f |", name, first, times.theirs, first / times.theirs);
+    if (HAS_BOTH) std::printf(" %.1f | %.2f |", times.cargo, times.cargo / first);
     std::printf("\n");
     std::fflush(stdout);
   }
